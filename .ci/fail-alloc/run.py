@@ -44,6 +44,9 @@ ADD = rv(0x00150513, 0x00008067)
 DOWN = rv(0xFFF50513, 0xFE051EE3, 0x00008067)
 CERT = b'p cnf 2 4\n1 2 0\n1 -2 0\n-1 2 0\n-1 -2 0\nproof\n5 1 0 1 2 0\n6 0 5 3 4 0\n'
 REPORT = None
+HEAD_REPORT = None
+INDUCTIVE = b'notes 2\nentry 0x10000\nrequire a0 != 0\ninvariant 0x10000 a0 != 0 and ra = old(ra)\nensure a0 = 0\n'
+BROKEN = b'notes 2\nentry 0x10000\nrequire a0 = 9\ninvariant 0x10000 a0 >u 5\n'
 MODEL = b'sat\n((define-fun x10 () (_ BitVec 32) #xffffffff))\n'
 
 CASES = {
@@ -81,12 +84,15 @@ CASES = {
                          ['--conflicts', '1'], 3, 'unknown conflicts 1'),
     'verify points': (['verify'], [ADD, notes()], ['--points', '1'], 3, 'unknown points 1'),
     'verify size': (['verify'], [ADD, notes('ensure a0 = old(a0) + 1')], ['--size', '6655'], 3, 'unknown size 6655'),
-    'usage': ([], [], [], 2, 'usage: bilv verify|lift|graph|smt|replay|cert|check|selfrun|upgrade|model'),
+    'usage': ([], [], [], 2, 'usage: bilv verify|lift|graph|smt|replay|cert|check|selfrun|upgrade|equal|differ|model'),
     'elf refused': (['verify'], [ADD[:51], notes()], [], 4, 'elf: E1 Short'),
     'notes refused': (['verify'], [ADD, notes('require a0 = 5 +')], [], 5, 'notes: line 2 N7 Syntax'),
     'no function': (['verify'], [ADD, b'function f\n'], [], 5, 'notes: NoFunction'),
     'upgrade': (['upgrade'], [ADD, notes('ensure a0 = old(a0) + 1')], [], 0, 'notes 2'),
     'notes 2': (['verify'], [ADD, b'notes 2\nentry 0x10000\nconst N 3\nensure all i 0 N (mem8[i] = old(mem8[i]))\n'], [], 0, 'holds'),
+    'partial': (['verify'], [DOWN, INDUCTIVE], [], 0, 'holds partially'),
+    'not inductive': (['verify'], [DOWN, BROKEN], [], 1, 'not inductive invariant 4 at 0x00010000 step 2'),
+    'replay head': (['replay'], [DOWN, BROKEN, 'HEAD'], [], 0, 'replayed not inductive invariant 4 at 0x00010000 step 2'),
     'bx': (['verify', '--arm', 'v5'], [arm(0xE16F0F10, 0xE12FFF1E), notes('ensure r0 <=u 32')], [], 0, 'holds'),
     'model accepted': (['model'], [ADD, notes('ensure a0 >u old(a0)'), MODEL], ['--question', 'fail'], 0, 'accepted'),
     'model refused': (['model'], [ADD, notes('ensure a0 >u old(a0)'), b'sat\n((define-fun x10 () (_ BitVec 32) #xff))\n'],
@@ -100,7 +106,9 @@ def prepare(folder, case):
     words = list(before)
     for i, data in enumerate(files):
         path = os.path.join(folder, 'f%d' % i)
-        if data in ('REPORT', 'REPORT0'):
+        if data == 'HEAD':
+            data = HEAD_REPORT
+        elif data in ('REPORT', 'REPORT0'):
             data = REPORT if data == 'REPORT' else REPORT.replace(b'x10 0xffffffff', b'x10 0x00000000')
         with open(path, 'wb') as f:
             f.write(data)
@@ -109,7 +117,7 @@ def prepare(folder, case):
 
 
 def main():
-    global REPORT
+    global REPORT, HEAD_REPORT
     args = sys.argv[1:]
     bilv = os.path.abspath(args[0])
     only = args[args.index('--only') + 1:] if '--only' in args else None
@@ -127,6 +135,8 @@ def main():
     with tempfile.TemporaryDirectory() as folder:
         words, _, _ = prepare(folder, 'fails')
         REPORT = subprocess.run([bilv] + words, stdout=subprocess.PIPE, stdin=subprocess.DEVNULL).stdout
+        words, _, _ = prepare(folder, 'not inductive')
+        HEAD_REPORT = subprocess.run([bilv] + words, stdout=subprocess.PIPE, stdin=subprocess.DEVNULL).stdout
         for case in CASES:
             if only and case not in only:
                 continue
