@@ -2,15 +2,20 @@
 use Rattle.std.proofs.Common.{◌≡◌, ◌≢◌, ℕ, zero, suc, ◌+◌, ◌≤◌, ◌<◌, refl, ap, sym, ◌∙◌, subst, arith, suc-add, Bool, true, false, ◌||◌, List, [], ◌∷◌, inl, inr, map}
 use Rattle.std.specs.List.Sorted.{IsStrictlyIncreasing}
 use Rattle.machine_spec.specs.Machine.{IsAtPlace}
-use Rattle.std.specs.Prelude.{◌↔◌, slice_index}
+use Rattle.std.specs.Prelude.{◌↔◌, Option, Some, length, nat_lt, slice_index}
+use Rattle.std.proofs.lemmas.Bool.Decides.{nat_tests}
+use Rattle.clause_spec.specs.Checks.{text_limit}
 use Rattle.std.specs.List.{list_any}
 use Rattle.bilv_spec.specs.Files.{machine_of, program_of, IsFunctionAt}
 use Rattle.bilv_spec.specs.Notes.{Notes, Function, At, Named}
 use Rattle.bilv_spec.specs.Run.{Program}
 use Rattle.bilv_spec.specs.Answers.{IsReported}
 use Rattle.bilv_spec.specs.Replays.{replay_answer}
-use Rattle.machine_spec.specs.StateText.{Layout}
-use Rattle.call_spec.specs.Calls.{Options, Budget, Answer}
+use Rattle.call_spec.specs.Calls.{Options, Question, program_question, Answer}
+use Rattle.bilv_spec.specs.Certified.{IsCertified}
+use Rattle.bilv_spec.specs.Scripts.{IsScriptAnswer}
+use Rattle.frame_texts_spec.specs.FrameReplays.{frame_replay_answer, sized_answer}
+use Rattle.frame_texts_spec.proofs.HeadlessReplays.{headless_replay, no_returns_asked}
 use Rattle.frame_spec.specs.FrameVerdict.{Whole}
 use Rattle.word_spec.specs.Tokens.{Token, tokens_of}
 use Rattle.notes_spec.specs.Scopes.{Vocabulary, Scope, Plain, Framed, begin, in_dialect}
@@ -20,8 +25,9 @@ use Rattle.notes_spec.specs.Programs.{vocabulary_of}
 use Rattle.notes_spec.specs.Verified.{AreNotesRefusedIn, AfterNotes, notes_refused, program_found, IsFound}
 use Rattle.notes_spec.proofs.Dialects.{spoken, plain_line}
 use Rattle.notes_spec.proofs.FrameReadings.{one_frame_reading, notes_are_framed, plain_has_none}
-use Rattle.answer_spec.specs.FrameAnswers.{invariant_words, contract_words, begins_line, has_line, dialect_by, dialect_for, IsFrameFound, AfterFrames, frames_refused, frames_found, ByInvariants, IsVerifiedWhole, IsReplayedWhole}
-use Rattle.answer_spec.specs.FrameAnswerLaws.{IsPlainText, VerifiedAsBefore, ReplayedAsBefore, ProgramsAreWhole, OneWhole, WholesAreFitted}
+use Rattle.answer_spec.specs.FrameAnswers.{invariant_words, contract_words, begins_line, has_line, dialect_by, dialect_for, IsFrameFound, AfterFrames, frames_refused, frames_found, ByInvariants, ByQuestion, IsFrameReplayed, too_long, judged, IsVerifiedWhole, IsReplayedWhole, IsCertifiedWhole, IsScriptWhole}
+use Rattle.answer_spec.specs.Outcomes.{IsGraphed, upgrade_answer}
+use Rattle.answer_spec.specs.FrameAnswerLaws.{IsPlainText, VerifiedAsBefore, ReplayedAsBefore, ReplayedByFrames, CertifiedAsBefore, ScriptedAsBefore, GraphedAsBefore, UpgradedAsBefore, ProgramsAreWhole, OneWhole, WholesAreFitted}
 
 -- ---- the words with which lines begin
 
@@ -279,36 +285,77 @@ module _ (o : Options) (file text : List ℕ) (a : Answer) (plain : dialect_for 
   refused_now : (written : List ℕ) → AreNotesRefusedIn Plain o file text written → AreNotesRefusedIn (dialect_for text) o file text written
   refused_now written h = subst (λ d. AreNotesRefusedIn d o file text written) (sym plain) h
 
-  verified_before : (layout : Layout) (b : Budget) → AfterFrames o file text (IsVerifiedWhole layout b) a →
-      AfterNotes o file text (λ p. IsReported p layout b) a
-  verified_before layout b (frames_refused written h is) = notes_refused written (refused_before written h) is
-  verified_before layout b (frames_found w found next) =
-      let p = plain_found o file text w plain found in program_found w.program p.0 ((without_invariants w.invariants _ _ p.1).0 next)
+  module _ (Over : Whole → Answer → Type 0) (Of : Program → Answer → Type 0)
+      (same : (w : Whole) → w.invariants ≡ [] → w.contracts ≡ [] → Over w a ↔ Of w.program a) where
+    is_before : AfterFrames o file text Over a → AfterNotes o file text Of a
+    is_before (frames_refused written h is) = notes_refused written (refused_before written h) is
+    is_before (frames_found w found next) =
+        let p = plain_found o file text w plain found in
+        program_found w.program p.0 ((same w p.1 (one_whole o file text w found).0).0 next)
 
-  verified_now : (layout : Layout) (b : Budget) → AfterNotes o file text (λ p. IsReported p layout b) a →
-      AfterFrames o file text (IsVerifiedWhole layout b) a
-  verified_now layout b (notes_refused written h is) = frames_refused written (refused_now written h) is
-  verified_now layout b (program_found p found next) =
-      let w = found_whole o file text p found in
-      frames_found w.0 w.1 ((without_invariants w.0.invariants _ _ w.3).1 (subst (λ q. IsReported q layout b a) (sym w.2) next))
+    is_now : AfterNotes o file text Of a → AfterFrames o file text Over a
+    is_now (notes_refused written h is) = frames_refused written (refused_now written h) is
+    is_now (program_found p found next) =
+        let w = found_whole o file text p found in
+        frames_found w.0 w.1
+        ((same w.0 w.3 (one_whole o file text w.0 w.1).0).1 (subst (λ q. Of q a) (sym w.2) next))
 
-  replayed_before : (report : List ℕ) (layout : Layout) → AfterFrames o file text (IsReplayedWhole layout report) a →
-      AfterNotes o file text (λ p x. x ≡ replay_answer p layout report) a
-  replayed_before report layout (frames_refused written h is) = notes_refused written (refused_before written h) is
-  replayed_before report layout (frames_found w found next) =
-      let p = plain_found o file text w plain found in program_found w.program p.0 ((without_invariants w.invariants _ _ p.1).0 next)
+    as_before : AfterFrames o file text Over a ↔ AfterNotes o file text Of a
+    as_before = (is_before, is_now)
 
-  replayed_now : (report : List ℕ) (layout : Layout) → AfterNotes o file text (λ p x. x ≡ replay_answer p layout report) a →
-      AfterFrames o file text (IsReplayedWhole layout report) a
-  replayed_now report layout (notes_refused written h is) = frames_refused written (refused_now written h) is
-  replayed_now report layout (program_found p found next) =
-      let w = found_whole o file text p found in
-      frames_found w.0 w.1 ((without_invariants w.0.invariants _ _ w.3).1 (subst (λ q. a ≡ replay_answer q layout report) (sym w.2) next))
+-- two answers are one where what is due to both is
+same_due : (a due other : Answer) → due ≡ other → (a ≡ due) ↔ (a ≡ other)
+same_due a due other e = (λ h. h ∙ e, λ h. h ∙ sym e)
+
+-- what is due to a question of a program where there are no invariants
+pub question_of : (invariants : List ℕ) (o : Option Question) (kind : Question) (Due : Question → Type 0) (Other : Type 0) → invariants ≡ [] → o ≡ Some kind →
+    ByQuestion invariants o Due Other ↔ Due kind
+question_of invariants o kind Due Other none is =
+    subst (λ (i : List ℕ). ByQuestion i o Due Other ↔ Due kind) (sym none)
+    (subst (λ (q : Option Question). ByQuestion [] q Due Other ↔ Due kind) (sym is) (λ x. x, λ x. x))
 
 pub verified_as_before : VerifiedAsBefore
 verified_as_before o file text layout b a plain =
-    let is = plain_text text plain in (verified_before o file text a is layout b, verified_now o file text a is layout b)
+    as_before o file text a (plain_text text plain) (IsVerifiedWhole layout b) (λ p. IsReported p layout b)
+    (λ w none free. without_invariants w.invariants _ _ none)
 
 pub replayed_as_before : ReplayedAsBefore
-replayed_as_before o file text report layout a plain =
-    let is = plain_text text plain in (replayed_before o file text a is report layout, replayed_now o file text a is report layout)
+replayed_as_before o file text report layout a plain first no_head =
+    as_before o file text a (plain_text text plain) (IsReplayedWhole layout report) (λ p x. x ≡ replay_answer p layout report)
+    (λ w none free.
+    let by = without_invariants w.invariants (a ≡ frame_replay_answer w (λ x. false) layout report) (IsFrameReplayed w layout report a) none in
+    let same = same_due a _ _ (headless_replay w none free (λ x. false) layout report first no_head) in
+    (λ h. same.0 (by.0 h), λ h. by.1 (same.1 h)))
+
+-- what is due by whether there are invariants
+due_by : (invariants : List ℕ) (A B : Type 0) → (invariants ≡ [] → A) → (invariants ≢ [] → B) → ByInvariants invariants A B
+due_by [] A B none some = none refl
+due_by (n ∷ rest) A B none some = some (λ h. (let x : ⊥ = cc in x))
+
+pub replayed_by_frames : ReplayedByFrames
+replayed_by_frames w layout report a h =
+    due_by w.invariants (a ≡ frame_replay_answer w (λ x. false) layout report) (IsFrameReplayed w layout report a) (λ none. by_case none h) (λ some. h)
+  where
+    by_case : w.invariants ≡ [] → IsFrameReplayed w layout report a → a ≡ frame_replay_answer w (λ x. false) layout report
+    by_case none (too_long long is) =
+        let large : nat_lt text_limit (length report) ≡ true = grind (arith, nat_tests, long) in
+        is ∙ sym (ap (λ b. sized_answer b w (λ x. false) layout report) large)
+    by_case none (judged returns tells is) = is ∙ no_returns_asked w none returns (λ x. false) layout report
+
+pub certified_as_before : CertifiedAsBefore
+certified_as_before o file text b question kind a plain is =
+    as_before o file text a (plain_text text plain) (IsCertifiedWhole b question) (λ p x. IsCertified p b kind x.status x.text x.evidence)
+    (λ w none free. question_of w.invariants (program_question question) kind (λ q. IsCertified w.program b q a.status a.text a.evidence) _ none is)
+
+pub scripted_as_before : ScriptedAsBefore
+scripted_as_before o file text layout b question kind a plain is =
+    as_before o file text a (plain_text text plain) (IsScriptWhole layout b question) (λ p. IsScriptAnswer p layout b kind)
+    (λ w none free. question_of w.invariants (program_question question) kind (λ q. IsScriptAnswer w.program layout b q a) _ none is)
+
+pub graphed_as_before : GraphedAsBefore
+graphed_as_before o file text a plain =
+    as_before o file text a (plain_text text plain) (λ w. IsGraphed w.program) IsGraphed (λ w none free. (λ h. h, λ h. h))
+
+pub upgraded_as_before : UpgradedAsBefore
+upgraded_as_before o file text a plain =
+    as_before o file text a (plain_text text plain) (λ w x. x ≡ upgrade_answer text) (λ p x. x ≡ upgrade_answer text) (λ w none free. (λ h. h, λ h. h))

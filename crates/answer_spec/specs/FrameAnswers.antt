@@ -1,18 +1,22 @@
--- What the commands that verify and replay answer to notes that may have invariants. Notes without invariants are answered as a program's, and a text with a line
--- of a contract is refused as if invariants and contracts were unknown.
-use Rattle.std.specs.Prelude.{ℕ, ◌≡◌, ◌≤◌, ◌<◌, Bool, true, false, List, [], ◌∷◌, length, codes}
+-- What commands answer to notes that may have invariants. Notes without invariants are answered as a program's, and a text with a line of a contract is refused
+-- as if invariants and contracts were unknown.
+use Rattle.std.specs.Prelude.{ℕ, ◌≡◌, ◌≤◌, ◌<◌, Bool, true, false, List, [], ◌∷◌, Option, Some, None, length, codes}
 use Rattle.std.specs.List.{list_any}
 use Rattle.std.specs.Str.{bytes_eq}
 use Rattle.word_spec.specs.Texts.{line}
 use Rattle.word_spec.specs.Tokens.{Token, NameToken, tokens_of}
 use Rattle.clause_spec.specs.Checks.{text_limit}
 use Rattle.machine_spec.specs.StateText.{Layout}
-use Rattle.call_spec.specs.Calls.{Options, Budget, Answer, plain_answer}
+use Rattle.call_spec.specs.Framed as framed
+use Rattle.call_spec.specs.Calls.{Options, Question, program_question, Budget, Answer, evidence_over, plain_answer}
 use Rattle.bilv_spec.specs.Files.{machine_of, IsFunctionAt}
 use Rattle.bilv_spec.specs.Answers.{IsReported, budget_text}
-use Rattle.bilv_spec.specs.Replays.{replay_answer}
+use Rattle.bilv_spec.specs.Certified.{IsCertified}
+use Rattle.bilv_spec.specs.Scripts.{IsScriptAnswer}
 use Rattle.frame_spec.specs.FrameVerdict.{Whole}
-use Rattle.frame_spec.specs.FrameReports.{ByEvent, ByTurn, Report, HoldsReport, PartialReport, VacuousReport, NamedReport, NotInductiveReport, UnprovedReport, PointsReport, SizeReport, ConflictsReport, Evidence, ShownBy, IsRightReport}
+use Rattle.frame_spec.specs.FrameCertified.{IsFrameCertified}
+use Rattle.frame_spec.specs.FrameScripts.{IsFrameScriptAnswer}
+use Rattle.frame_spec.specs.FrameReports.{last_rank, ByEvent, ByTurn, Report, HoldsReport, PartialReport, VacuousReport, NamedReport, NotInductiveReport, UnprovedReport, PointsReport, SizeReport, ConflictsReport, Evidence, ShownBy, IsRightReport}
 use Rattle.frame_texts_spec.specs.FrameTexts.{FramedEnding, FramedFails, FramedTurns, NotInductiveBy, framed_printed}
 use Rattle.frame_texts_spec.specs.FrameReplays.{TellsReturns, frame_replay_answer}
 use Rattle.notes_spec.specs.Scopes.{Dialect, Plain, Framed, in_dialect}
@@ -94,11 +98,20 @@ frame_report_text layout b PointsReport e = budget_text (codes "points") b.point
 frame_report_text layout b SizeReport e = budget_text (codes "size") b.size
 frame_report_text layout b ConflictsReport e = budget_text (codes "conflicts") b.conflicts
 
--- The answer is a right report over frames. What shows that it is right is no part of the answer.
+-- the rank of the frame that a report is about: that of the entry, but where it says of another one that it is not proved
+abbrev pub rank_of : Whole → Report → ℕ
+rank_of w (UnprovedReport rank n) = rank
+rank_of w other = last_rank w
+
+-- the answer of a report over frames
+abbrev pub frame_report_answer : Whole → Layout → Budget → Report → Evidence → Answer
+frame_report_answer w layout b report e =
+    record { status = frame_status report; text = frame_report_text layout b report e; evidence = evidence_over (rank_of w report) e }
+
+-- the answer is that of a right report over frames
 abbrev pub IsFrameReported : Whole → Layout → Budget → Answer → Type 0
 IsFrameReported w layout b a =
-    (report : Report) × (e : Evidence) × IsRightReport w layout b report e
-    × (a ≡ plain_answer (frame_status report) (frame_report_text layout b report e))
+    (report : Report) × (e : Evidence) × IsRightReport w layout b report e × (a ≡ frame_report_answer w layout b report e)
 
 -- the answer of the command that verifies
 abbrev pub IsVerifiedWhole : Layout → Budget → Whole → Answer → Type 0
@@ -109,6 +122,25 @@ pub data IsFrameReplayed (w : Whole) (layout : Layout) (report : List ℕ) (a : 
   too_long : text_limit < length report → a ≡ plain_answer 9 (line (codes "state: TooLarge")) → IsFrameReplayed w layout report a
   judged : (returns : ℕ → Bool) → TellsReturns w.program returns → a ≡ frame_replay_answer w returns layout report → IsFrameReplayed w layout report a
 
--- the answer of the command that replays a report
+-- The answer of the command that replays a report. Without invariants no head part is lawful, and no address to which a call returns is asked for.
 abbrev pub IsReplayedWhole : Layout → (report : List ℕ) → Whole → Answer → Type 0
-IsReplayedWhole layout report w a = ByInvariants w.invariants (a ≡ replay_answer w.program layout report) (IsFrameReplayed w layout report a)
+IsReplayedWhole layout report w a =
+    ByInvariants w.invariants (a ≡ frame_replay_answer w (λ x. false) layout report) (IsFrameReplayed w layout report a)
+
+-- what is due to a question of a program about notes without invariants, and to each other question
+abbrev pub ByQuestion : (invariants : List ℕ) → Option Question → (plain : Question → Type 0) → (framed : Type 0) → Type 0
+ByQuestion [] (Some question) plain framed = plain question
+ByQuestion [] None plain framed = framed
+ByQuestion (n ∷ rest) question plain framed = framed
+
+-- the answer of the command that certifies a question
+abbrev pub IsCertifiedWhole : Budget → framed.Question → Whole → Answer → Type 0
+IsCertifiedWhole b question w a =
+    ByQuestion w.invariants (program_question question) (λ kind. IsCertified w.program b kind a.status a.text a.evidence)
+    (IsFrameCertified w (last_rank w) b question a.status a.text a.evidence)
+
+-- the answer of the command that prints the script of a question
+abbrev pub IsScriptWhole : Layout → Budget → framed.Question → Whole → Answer → Type 0
+IsScriptWhole layout b question w a =
+    ByQuestion w.invariants (program_question question) (λ kind. IsScriptAnswer w.program layout b kind a)
+    (IsFrameScriptAnswer w (last_rank w) layout b question a)

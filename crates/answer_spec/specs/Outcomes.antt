@@ -2,7 +2,7 @@
 use Rattle.std.specs.Prelude.{ℕ, ◌≡◌, ◌<◌, ◌++◌, List, [], Option, Some, None, codes, length, take, Contains, nat_le, if◌then◌else◌}
 use Rattle.call_spec.specs.Outside.{Rose, Appends}
 use Rattle.bilv_spec.specs.Run.{Program}
-use Rattle.call_spec.specs.Calls.{Options, default_options, Evidence, NoEvidence, Answer, plain_answer, default_budget, Surroundings, AfterRead}
+use Rattle.call_spec.specs.Calls.{Options, default_options, program_question, Evidence, NoEvidence, Answer, plain_answer, default_budget, Surroundings, AfterRead}
 use Rattle.bilv_spec.specs.Files.{layout_of}
 use Rattle.notes_spec.specs.Upgrades.{upgraded}
 use Rattle.frame_spec.specs.FrameVerdict.{Whole}
@@ -10,16 +10,14 @@ use Rattle.notes_spec.specs.Verified.{AfterImage, AfterNotes, IsVerified, notes_
 use Rattle.command_spec.specs.Commands.{usage_text, PairNames, Command, Verify, Lift, Graph, Script, Replay, Certify, Check, SelfRun, Upgrade, Model, Equal, Differ}
 use Rattle.bilv_spec.specs.LiftText.{IsLiftText}
 use Rattle.bilv_spec.specs.GraphText.{IsGraphText}
-use Rattle.bilv_spec.specs.Scripts.{IsScriptAnswer}
-use Rattle.bilv_spec.specs.Certified.{IsCertified}
-use Rattle.model_spec.specs.Models.{AfterBudgets, IsModelAnswer}
+use Rattle.model_spec.specs.Models.{AfterBudgets, IsAskedModelAnswer}
 use Rattle.pair_spec.specs.Links.{Link}
 use Rattle.pair_spec.specs.Equals.{side_of, AfterElfOf, AfterNotesOf, AfterLinks, IsPairReported}
 use Rattle.pair_spec.specs.Differs.{differ_answer}
 use Rattle.clause_spec.specs.Checks.{IsChecked}
 use Rattle.command_spec.specs.Work.{work_file, work_notes, work_text}
 use Rattle.word_spec.specs.Texts.{line, line_feed}
-use Rattle.answer_spec.specs.FrameAnswers.{AfterFrames, IsVerifiedWhole, IsReplayedWhole}
+use Rattle.answer_spec.specs.FrameAnswers.{AfterFrames, IsVerifiedWhole, IsReplayedWhole, IsCertifiedWhole, IsScriptWhole}
 
 -- the answer behind the reading of an ELF file, and its refusals
 abbrev pub AfterElf : Surroundings → (elf : List ℕ) → (Next : List ℕ → Answer → Type 0) → Answer → Type 0
@@ -68,16 +66,17 @@ upgrade_answer text =
 abbrev pub IsRightAnswer : Surroundings → Command → Answer → Type 0
 IsRightAnswer s (Verify o elf notes b) = AfterWhole s o elf notes (λ file. IsVerifiedWhole (layout_of o file) b)
 IsRightAnswer s (Lift o elf) = AfterElf s elf (IsLifted o)
-IsRightAnswer s (Graph o elf notes) = AfterBoth s o elf notes (λ file p. IsGraphed p)
-IsRightAnswer s (Script o elf notes kind b) = AfterBoth s o elf notes (λ file p. IsScriptAnswer p (layout_of o file) b kind)
+IsRightAnswer s (Graph o elf notes) = AfterWhole s o elf notes (λ file w. IsGraphed w.program)
+IsRightAnswer s (Script o elf notes question b) = AfterWhole s o elf notes (λ file. IsScriptWhole (layout_of o file) b question)
 IsRightAnswer s (Replay o elf notes report) =
     AfterWhole s o elf notes (λ file w. AfterRead s report (λ text. IsReplayedWhole (layout_of o file) text w))
-IsRightAnswer s (Certify o elf notes kind b) = AfterBoth s o elf notes (λ file p a. IsCertified p b kind a.status a.text a.evidence)
+IsRightAnswer s (Certify o elf notes question b) = AfterWhole s o elf notes (λ file. IsCertifiedWhole b question)
 IsRightAnswer s (Check certificate) = AfterRead s certificate (λ text a. IsChecked text a.status a.text × (a.evidence ≡ NoEvidence))
 IsRightAnswer s (SelfRun seed count) = IsSelfRun seed count
-IsRightAnswer s (Upgrade o elf notes) = AfterElf s elf (λ file. AfterRead s notes (λ text. AfterNotes o file text (λ p a. a ≡ upgrade_answer text)))
-IsRightAnswer s (Model o elf notes answer kind b) =
-    AfterBoth s o elf notes (λ file p. AfterBudgets p b (AfterRead s answer (IsModelAnswer p (layout_of o file) b kind)))
+IsRightAnswer s (Upgrade o elf notes) = AfterElf s elf (λ file. AfterRead s notes (λ text. AfterFrames o file text (λ w a. a ≡ upgrade_answer text)))
+IsRightAnswer s (Model o elf notes answer question b) =
+    AfterBoth s o elf notes
+    (λ file p. AfterBudgets p b (AfterRead s answer (IsAskedModelAnswer p (layout_of o file) b (program_question question))))
 IsRightAnswer s (Equal o names b) = AfterPair s o names (λ f g p q links. IsPairReported (side_of o f p) (side_of o g q) links b)
 IsRightAnswer s (Differ o names report) =
     AfterPair s o names (λ f g p q links. AfterRead s report (λ text a. a ≡ differ_answer (side_of o f p) (side_of o g q) links text))

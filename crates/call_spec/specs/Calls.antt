@@ -1,16 +1,24 @@
 -- What a call is asked, what it meets outside, and what it answers.
-use Rattle.std.specs.Prelude.{ℕ, ◌≤◌, ◌^◌, Bool, false, List, ◌≡◌, Option, codes}
+use Rattle.std.specs.Prelude.{ℕ, ◌≤◌, ◌^◌, Bool, false, List, [], ◌∷◌, ◌≡◌, Option, Some, None, codes}
 use Rattle.clause_spec.specs.Refutation.{Proof}
 use Rattle.word_spec.specs.State.{Written}
 use Rattle.word_spec.specs.Profiles.{Profile, V4}
 use Rattle.call_spec.specs.Outside.{Held, Agrees, Rose}
+use Rattle.call_spec.specs.Framed as framed
 use Rattle.word_spec.specs.Texts.{line}
 
--- the three questions: whether there is an entry state, whether its run has an event, whether its run makes too many backward transfers
+-- the three questions about a program: whether there is an entry state, whether its run has an event, whether its run makes too many backward transfers
 pub data Question : Type 0 where
   EntryQuestion : Question
   FailQuestion : Question
   TurnQuestion : Question
+
+-- The question about a frame as one about a program. A program has no head states.
+abbrev pub program_question : framed.Question → Option Question
+program_question framed.EntryQuestion = Some EntryQuestion
+program_question framed.FailQuestion = Some FailQuestion
+program_question framed.StepQuestion = None
+program_question framed.TurnQuestion = Some TurnQuestion
 
 -- the two questions about two functions: whether there is a linked pair of entry states, and whether the exits of one differ
 pub data PairQuestion : Type 0 where
@@ -41,7 +49,10 @@ pub record Holding : Type 0 where
   pub fail : Proof
   pub turn : Proof
 
--- what shows it; of two functions a linked pair of entry states whose exits differ, or that both hold, a linked pair, and the refutation of a difference
+-- What shows an answer. With invariants it may be an entry state with the refutations of the three questions after it, or a start with the head state from which
+-- the shown segment goes; with contracts what shows that each frame passes, or the start of a frame with its contract steps; and a question of a frame that
+-- spent its conflicts. Of two functions it is a linked pair of entry states whose exits differ, or that both hold, a linked pair, and the refutation of a
+-- difference.
 pub data Evidence : Type 0 where
   NoEvidence : Evidence
   Refutations : Written → (fail turn : Proof) → Evidence
@@ -49,9 +60,35 @@ pub data Evidence : Type 0 where
   RunOf : Written → Evidence
   SpentOn : Question → Proof → Evidence
   Count : ℕ → Evidence
+  Inductive : Written → (fail step turn : Proof) → Evidence
+  FromHead : Written → framed.WrittenHead → Evidence
+  Frames : List framed.Passed → Evidence
+  WithCalls : (rank : ℕ) → Written → List framed.WrittenCall → Evidence
+  SpentOnFrame : (rank : ℕ) → framed.Question → Proof → Evidence
   Two : (first second : Written) → Evidence
   Both : (first second : Holding) → (first_start second_start : Written) → (difference : Proof) → Evidence
   SpentOnPair : PairQuestion → Proof → Evidence
+
+-- What is shown of a segment: its start alone, the head state besides, or its contract steps. A segment from a head makes none.
+abbrev pub segment_evidence : (rank : ℕ) → Written → Option framed.WrittenHead → List framed.WrittenCall → Evidence
+segment_evidence rank start None [] = RunOf start
+segment_evidence rank start (Some head) [] = FromHead start head
+segment_evidence rank start head calls = WithCalls rank start calls
+
+-- what shows that the entry's frame passes: the refutations are two without heads, and three with one
+abbrev pub passed_evidence : framed.Passed → Evidence
+passed_evidence (framed.EntryRefuted proof) = EntryRefuted proof
+passed_evidence (framed.Refutations start (fail ∷ turn ∷ [])) = Refutations start fail turn
+passed_evidence (framed.Refutations start (fail ∷ step ∷ turn ∷ [])) = Inductive start fail step turn
+passed_evidence (framed.Refutations start proofs) = NoEvidence
+
+-- What shows an answer about frames, the report's being that of a rank.
+abbrev pub evidence_over : (rank : ℕ) → framed.Evidence → Evidence
+evidence_over rank (framed.PassedBy e) = passed_evidence e
+evidence_over rank (framed.Frames list) = Frames list
+evidence_over rank (framed.ShownBy s) = segment_evidence rank s.start s.head s.calls
+evidence_over rank (framed.SpentOn r question proof) = SpentOnFrame r question proof
+evidence_over rank (framed.Count n) = Count n
 
 -- what a command answers: a status, a text, and evidence
 pub record Answer : Type 0 where

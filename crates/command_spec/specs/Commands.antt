@@ -1,6 +1,7 @@
 -- The commands.
 use Rattle.std.specs.Prelude.{ℕ, ◌<◌, ◌≤◌, ◌^◌, List, codes}
-use Rattle.call_spec.specs.Calls.{Question, Options, Budget, IsBudget}
+use Rattle.call_spec.specs.Framed.{Question}
+use Rattle.call_spec.specs.Calls.{Options, Budget, IsBudget}
 use Rattle.word_spec.specs.Texts.{line}
 
 -- the names of two executables, each with its notes, and of the links between them
@@ -11,7 +12,8 @@ pub record PairNames : Type 0 where
   pub other_notes : List ℕ
   pub links : List ℕ
 
--- a command, its files by their names: options of the machine stand first
+-- A command, its files by their names: options of the machine stand first. Its question is one about the frame of notes, which is that of a program where they
+-- have no invariants.
 pub data Command : Type 0 where
   Verify : Options → (elf notes : List ℕ) → Budget → Command
   Lift : Options → (elf : List ℕ) → Command

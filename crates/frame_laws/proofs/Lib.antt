@@ -19,3 +19,4 @@ pub mod FrameTallies
 pub mod FramePriceLaw
 pub mod HeadlessInputs
 pub mod HeadlessReports
+pub mod OneFramePrice

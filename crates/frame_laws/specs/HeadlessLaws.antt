@@ -154,7 +154,7 @@ HeadlessClauses = (p : Program) (k : ℕ) (question : calls.Question) (cnf : Cnf
 abbrev pub headless_whole : Program → Whole
 headless_whole p = record { program = p; invariants = []; contracts = [] }
 
--- a report on a program, and what shows it; no evidence, and that on two functions, is none of any frame
+-- a report on a program, and what shows it; no evidence, and that of other answers, is none of any report on a program's frame
 abbrev pub as_report : answers.Report → Report
 as_report answers.HoldsReport = HoldsReport
 as_report answers.VacuousReport = VacuousReport

@@ -1,5 +1,6 @@
 //! Laws of what unrolled frames cost.
 ghost use Rattle.frame_laws.specs.FramePrices.{FramePartsAddUp, FramePriceIsPrice, HeadlessBounds};
+ghost use Rattle.frame_laws.specs.OnePrice.{OneFramePrice, OneWholePrice};
 
 /// The price of an unrolled frame is that of its frame.
 pub fn frame_price_is_price()
@@ -14,4 +15,14 @@ pub fn frame_parts_add_up()
 /// Without invariants and contracts the bounds are those of the unrolled program.
 pub fn headless_bounds()
     ensures { HeadlessBounds }
+{}
+
+/// A frame has one price.
+pub fn one_frame_price()
+    ensures { OneFramePrice }
+{}
+
+/// So have all frames of notes together.
+pub fn one_whole_price()
+    ensures { OneWholePrice }
 {}

@@ -1,5 +1,6 @@
 pub mod Headless
 pub mod HeadlessVerdict
+pub mod HeadlessFound
 pub mod OneEnd
 pub mod Partial
 pub mod Steps

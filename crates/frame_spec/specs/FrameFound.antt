@@ -1,7 +1,8 @@
 -- What a run of a frame is found to come to in a bounded number of steps.
 use Rattle.std.specs.Prelude.{ℕ, ◌+◌, Option}
+use Rattle.bilv_spec.specs.Reports as tables
 use Rattle.bilv_spec.specs.Reports.{turns_within}
-use Rattle.frame_spec.specs.Frames.{Frame, FrameEvent}
+use Rattle.frame_spec.specs.Frames.{Frame, FrameEvent, OfStep}
 use Rattle.frame_spec.specs.FrameRuns.{Start, Run, Going, Arriving, Calling, Exited, Failed, Turned, Cut, Broken, run}
 
 -- The exit, an event, one backward transfer too many, the arrival at a head, a contract step that is no run, or nothing: the steps were made, and the run would
@@ -43,3 +44,10 @@ found_within f k start last = found_by (run f k start last) (run f k start (last
 -- and for a bound on backward transfers or without one
 abbrev pub found : Frame → Option ℕ → Start → (last : ℕ) → Found
 found f bound start last = found_within f (turns_within last bound) start last
+
+-- what a run of the tables is found to come to, as of a run of a frame
+abbrev pub as_found : tables.Found → Found
+as_found (tables.FoundExit at step) = FoundExit at step
+as_found (tables.FoundEvent e at step) = FoundEvent (OfStep e) at step
+as_found (tables.FoundTurn at step) = FoundTurn at step
+as_found (tables.FoundLeft at step) = FoundLeft at step

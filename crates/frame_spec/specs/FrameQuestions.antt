@@ -9,6 +9,7 @@ use Rattle.bilv_spec.specs.Questions as tables
 use Rattle.bilv_spec.specs.Questions.{IsEntryStateOver}
 use Rattle.bilv_spec.specs.Evidence.{RowDraws}
 use Rattle.bilv_spec.specs.Verdict.{IsEntryState}
+pub use Rattle.call_spec.specs.Framed.{Question, EntryQuestion, FailQuestion, StepQuestion, TurnQuestion, asks_head}
 use Rattle.frame_spec.specs.Frames.{Content, IsContent, Contract, Frame, FrameEvent, content_at, is_head, invariants_of, contract_at}
 use Rattle.frame_spec.specs.FrameRuns.{Run, Going, Arriving, Calling, Exited, Failed, Turned, Cut, Broken, after_step, arrival, begins, frame_step, contract_step}
 use Rattle.frame_spec.specs.FramePoints.{Anchor, AtEntry, AtHead, Point, IsPoint, IsAnchor, has_heads}
@@ -63,20 +64,6 @@ ReadingFails f k r anchor = (steps at n : ℕ) × (e : FrameEvent) × (read_run 
 
 abbrev pub ReadingTurns : Frame → ℕ → Reading → Anchor → Type 0
 ReadingTurns f k r anchor = (steps at n : ℕ) × (read_run f k r anchor steps ≡ Turned at n)
-
--- the four questions, in their order
-pub data Question : Type 0 where
-  EntryQuestion : Question
-  FailQuestion : Question
-  StepQuestion : Question
-  TurnQuestion : Question
-
--- the question speaks of head states
-abbrev pub asks_head : Question → Bool
-asks_head EntryQuestion = false
-asks_head FailQuestion = false
-asks_head StepQuestion = true
-asks_head TurnQuestion = true
 
 -- the head part at a head, where a state can be: the head's invariants are true; its bytes are asked apart
 pub record IsHeadPart (f : Frame) (r : Reading) (a : ℕ) : Type 0 where

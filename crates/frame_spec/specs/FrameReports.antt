@@ -14,9 +14,10 @@ use Rattle.bilv_spec.specs.Verdict.{IsEntryState}
 use Rattle.machine_spec.specs.StateText.{Layout, IsWritten, AreRising, last_step, start_of}
 use Rattle.word_spec.specs.State.{Written}
 use Rattle.call_spec.specs.Calls.{Budget}
+pub use Rattle.call_spec.specs.Framed.{WrittenHead, WrittenCall, Shown, Passed, Refutations, EntryRefuted, Evidence, PassedBy, Frames, ShownBy, SpentOn, Count}
 use Rattle.bilv_spec.specs.Answers.{known_byte}
-use Rattle.frame_spec.specs.Frames.{Content, Contract, Frame, FrameEvent, contract_at}
-use Rattle.frame_spec.specs.FrameRuns.{Start, Calling, Failed, Turned, run}
+use Rattle.frame_spec.specs.Frames.{Content, Contract, Frame, FrameEvent, contract_at, covers}
+use Rattle.frame_spec.specs.FrameRuns.{Start, Halts, Calling, Failed, Turned, contract_step, run}
 use Rattle.frame_spec.specs.FramePoints.{Point, IsPoint, ArePoints, IsPrice, evaluated, entry_lines, point_loads, has_heads}
 use Rattle.frame_spec.specs.FrameVerdict.{IsStart, IsRight, Holds, Vacuous, Fails, NotInductive, Unroll, Partial, Whole, frame_of, entry_frame, Passes}
 use Rattle.frame_spec.specs.FrameQuestions.{Reading, IsReading, Question, EntryQuestion, FailQuestion, StepQuestion, TurnQuestion, IsTrueOver, HeadAgrees, IsDue, Part, Input, OfByte, IsInput, Addresses, input_value}
@@ -77,26 +78,6 @@ pub record Refutes (f : Frame) (k : ℕ) (question : Question) (proof : Proof) :
 pub record Spends (f : Frame) (k : ℕ) (question : Question) (conflicts : ℕ) (proof : Proof) : Type 0 where
   pub of_question : AreOfQuestion f k question proof.clauses
   pub spent : IsSpent proof.clauses.clauses conflicts proof.log
-
--- a head state as it is written, its stack from the bottom, and a contract step: its step, its contract's address, and the registers, flags and bytes that it
--- is given
-pub record WrittenHead : Type 0 where
-  pub at : ℕ
-  pub stack : List ℕ
-  pub start : Written
-
-pub record WrittenCall : Type 0 where
-  pub step : ℕ
-  pub at : ℕ
-  pub regs : List ℕ
-  pub flags : ℕ
-  pub bytes : List (ℕ × ℕ)
-
--- what a report shows: a start, with a head state, or with contract steps
-pub record Shown : Type 0 where
-  pub start : Written
-  pub head : Option WrittenHead
-  pub calls : List WrittenCall
 
 -- the byte that is kept, which is known of a head state
 abbrev pub kept_byte : Program → ℕ → Option ℕ
@@ -162,19 +143,6 @@ pub data Report : Type 0 where
   SizeReport : Report
   ConflictsReport : Report
 
--- What shows that a frame passes: an entry state, with the refutations of the questions after the entry's, in their order; or that there is no entry state.
-pub data Passed : Type 0 where
-  Refutations : Written → List Proof → Passed
-  EntryRefuted : Proof → Passed
-
--- What shows a report. (A list of evidence within evidence is no data of the definitions, so what shows that a frame passes is a type of its own.)
-pub data Evidence : Type 0 where
-  PassedBy : Passed → Evidence
-  Frames : List Passed → Evidence
-  ShownBy : Shown → Evidence
-  SpentOn : (rank : ℕ) → Question → Proof → Evidence
-  Count : ℕ → Evidence
-
 -- the frame's questions after the entry's
 abbrev pub later_questions : Bool → List Question
 later_questions true = FailQuestion ∷ StepQuestion ∷ TurnQuestion ∷ []
@@ -226,6 +194,34 @@ EndsAs f k start (ByTurn at step) = (steps : ℕ) × (run f k start steps ≡ Tu
 -- the run comes to a contract step
 abbrev pub MakesContractStep : Frame → ℕ → Start → Type 0
 MakesContractStep f k start = (steps turns n : ℕ) × (c : Place) × (run f k start steps ≡ Calling turns n c)
+
+-- What is shown of a contract step is that of its contract, at the place where the step is made: its flags are among those that the contract may change, its
+-- bytes among those that it may write.
+pub record IsCallAt (f : Frame) (c : Place) (x : Contract) (call : WrittenCall) : Type 0 where
+  pub at : call.at ≡ c.state.pc
+  pub flags : (i : ℕ) → flag_in call.flags i ≡ 1 → list_any (nat_eq i) x.flags ≡ true
+  pub bytes : All (λ b. covers f.program.machine.endian x.writes c.state b.0 ≡ true) call.bytes
+
+-- the contract step that the run makes at a place has no event
+abbrev pub HasNoEvent : Frame → Start → (step : ℕ) → Place → Type 0
+HasNoEvent f start n c = (e : FrameEvent) → contract_step f start.state c (start.given n) ≢ Halts e
+
+-- the run makes the contract step that is shown, without an event
+pub record IsMade (f : Frame) (k : ℕ) (start : Start) (call : WrittenCall) : Type 0 where
+  pub steps : ℕ
+  pub turns : ℕ
+  pub place : Place
+  pub contract : Contract
+  pub comes : run f k start steps ≡ Calling turns call.step place
+  pub stepped : contract_at f.stepped place.state.pc ≡ Some contract
+  pub passes : HasNoEvent f start call.step place
+  pub is : IsCallAt f place contract call
+
+-- What is shown are the contract steps of the run that have no event, and no others.
+pub record AreMade (f : Frame) (k : ℕ) (start : Start) (calls : List WrittenCall) : Type 0 where
+  pub each : All (IsMade f k start) calls
+  pub whole : (steps turns n : ℕ) (c : Place) → run f k start steps ≡ Calling turns n c → HasNoEvent f start n c →
+      (call : WrittenCall) × Contains calls call × (call.step ≡ n)
 
 -- A contract step that can be written: a word for each register that its contract may change, the flags of the form, and bytes from 1 on in rising order.
 pub record IsWrittenCall (w : Whole) (layout : Layout) (c : WrittenCall) : Type 0 where
@@ -290,13 +286,15 @@ IsRightReport w layout b (NamedReport n) (ShownBy s) =
     IsOfVerdict f k (Some h) (ByEvent e at step) = ⊥
     IsOfVerdict f k h (ByTurn at step) = IsRight f k Unroll
 IsRightReport w layout b (NotInductiveReport e at step) (ShownBy s) =
-    IsWithin w b × (w.contracts ≡ []) × IsRight (entry_frame w) b.unroll NotInductive × (s.head ≢ None) × IsShown w (entry_frame w) layout s
+    IsWithin w b × (w.contracts ≡ []) × IsRight (entry_frame w) b.unroll NotInductive × (s.head ≢ None) × (s.calls ≡ [])
+    × IsShown w (entry_frame w) layout s
     × IsStart (entry_frame w) b.unroll (shown_start w (entry_frame w) layout s)
     × EndsAs (entry_frame w) b.unroll (shown_start w (entry_frame w) layout s) (ByEvent e at step)
 IsRightReport w layout b (UnprovedReport rank n) (ShownBy s) =
     IsWithin w b × (rank ≤ last_rank w) × PassBelow w b.unroll rank × (s.head ≡ None) × IsShown w (frame_of w rank) layout s
     × IsStart (frame_of w rank) b.unroll (shown_start w (frame_of w rank) layout s)
     × EndsAs (frame_of w rank) b.unroll (shown_start w (frame_of w rank) layout s) n
+    × AreMade (frame_of w rank) b.unroll (shown_start w (frame_of w rank) layout s) s.calls
     × (rank ≡ last_rank w → MakesContractStep (frame_of w rank) b.unroll (shown_start w (frame_of w rank) layout s))
     × IsRanked (frame_of w rank) b.unroll n
   where

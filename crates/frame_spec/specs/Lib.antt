@@ -6,6 +6,8 @@ pub mod FrameQuestions
 pub mod FrameWalk
 pub mod FrameUnrolling
 pub mod FrameReports
+pub mod FrameCertified
+pub mod FrameScripts
 pub mod FrameFound
 pub mod FrameLaws
 pub mod Theorems

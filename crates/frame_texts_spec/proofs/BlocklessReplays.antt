@@ -107,7 +107,7 @@ module _ (f : Frame) (none : f.stepped ≡ []) where
       by_test true = refl
       by_test false = refl
 
-  never_calling : (k : ℕ) (start : Start) (n : ℕ) → is_calling (run f k start n) ≡ false
+  pub never_calling : (k : ℕ) (start : Start) (n : ℕ) → is_calling (run f k start n) ≡ false
   unfolding run
   never_calling k start zero = begins_no_call start.state start.head
   never_calling k start (suc n) = next_no_call k start (run f k start n) (never_calling k start n)

@@ -48,7 +48,7 @@ event_above WritesFails rest b above = (plain_above (codes "writes") refl, above
 event_above (GivesFails m) rest b above = numbered_above (codes "gives") m rest refl b above
 event_above ModifiesFails rest b above = (plain_above (codes "modifies") refl, above)
 
-ending_above : (n : FramedEnding) → IsFramedEnding n → AllAbove 32 (ending_words n)
+pub ending_above : (n : FramedEnding) → IsFramedEnding n → AllAbove 32 (ending_words n)
 ending_above (FramedFails e at step) b = (plain_above (codes "fails") refl, event_above e (place_words at step) b.0 (place_above at step b.2))
 ending_above (FramedTurns k at step) b =
     (plain_above (codes "unknown") refl, (plain_above (codes "unroll") refl, (number_above k (omega (arith, b.0)), place_above at step b.2)))

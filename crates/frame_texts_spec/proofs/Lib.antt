@@ -19,3 +19,7 @@ pub mod CallsSaid
 pub mod FramedSaid
 pub mod ProgramBlocks
 pub mod Replaying
+mod RunEnds
+mod MadeBlocks
+pub mod HeadlessReplays
+pub mod PlainPrinted

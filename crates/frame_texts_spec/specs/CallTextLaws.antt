@@ -11,7 +11,7 @@ use Rattle.frame_spec.specs.FrameVerdict.{Whole}
 use Rattle.frame_texts_spec.specs.FrameTexts.{FramedTurns, FramedTold, FramedIs, FramedRefused, framed_of}
 use Rattle.frame_texts_spec.specs.FrameReplays.{frame_replay_answer}
 use Rattle.frame_texts_spec.specs.CallTexts.{CallEnding, CallText, CallChecks, Changes, EntryFrame, HasChanges, Plain, IsCallText, call_of, call_printed, call_text_lines, call_ending_words, call_text_of, frame_name, shown_of, UnprovedBy, UnprovedTurns, CallTextFault, OfFramed, CallTold, CallIs, CallRefused, unproved_ending}
-use Rattle.frame_texts_spec.specs.CallReplays.{bare, block_cause, call_checks, call_replay_answer, call_run_answer, changes_of, frame_named, report_of}
+use Rattle.frame_texts_spec.specs.CallReplays.{call_checks, call_replay_answer, call_run_answer, changes_of, frame_named, report_of}
 
 -- what a text without blocks says, among texts that may have them
 abbrev pub without_blocks : FramedTold → CallTold
@@ -104,10 +104,9 @@ HasTurns unroll (Plain other) = Unit {0}
 HasTurns unroll (UnprovedBy f e at step) = Unit {0}
 HasTurns unroll (UnprovedTurns f k at step) = k ≡ unroll
 
--- A right report that names an ending replays, where none of its blocks is wrong.
+-- A right report that names an ending replays.
 abbrev pub FrameReportsReplay : Type 0
 FrameReportsReplay = (w : Whole) (layout : Layout) (b : Budget) (n : CallEnding) (s : Shown) → HasTurns b.unroll n →
     IsRightReport w layout b (report_of w n) (ShownBy s) →
-    block_cause (frame_named w (frame_name n)) (bare n) (shown_start w (frame_named w (frame_name n)) layout s) s.calls ≡ None →
     call_run_answer (frame_named w (frame_name n)) n (shown_start w (frame_named w (frame_name n)) layout s) s.calls
     ≡ plain_answer 0 (line (codes "replayed " ++ joined (call_ending_words n)))

@@ -4,3 +4,4 @@ pub mod FrameReplays
 pub mod CallTexts
 pub mod CallReplays
 pub mod CallTextLaws
+pub mod ReplayLaws

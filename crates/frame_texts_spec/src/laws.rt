@@ -1,5 +1,6 @@
 //! Laws of texts with head parts, and with blocks of contract steps.
 ghost use Rattle.frame_texts_spec.specs.CallTextLaws.{BlocklessIsFramed, BlocklessReplay, ChangesAreOfLayout, FrameReportsReplay, OneCallReading, OneTextForOne, PrintedBlocksAreReadBack, PrintedBlocksOnce, ToldBlocksArePrinted, WrittenIsShown};
+ghost use Rattle.frame_texts_spec.specs.ReplayLaws.{HeadlessReplay, NoReturnsAsked, PlainPrinted};
 ghost use Rattle.frame_texts_spec.specs.FrameTextLaws.{HeadlessIsStateText, OneReading, PrintedIsReadBack, ToldIsFramed};
 
 /// A text without a head part, whose ending a run of the tables may have, says what it says of such a run.
@@ -67,7 +68,22 @@ pub fn blockless_replay()
     ensures { BlocklessReplay }
 {}
 
-/// A right report that names an ending replays, where none of its blocks is wrong.
+/// A right report that names an ending replays.
 pub fn frame_reports_replay()
     ensures { FrameReportsReplay }
+{}
+
+/// Without invariants and contracts a text without a head part is answered as a report of a run of the tables.
+pub fn headless_replay()
+    ensures { HeadlessReplay }
+{}
+
+/// Without invariants the answer hangs on no test of return addresses.
+pub fn no_returns_asked()
+    ensures { NoReturnsAsked }
+{}
+
+/// What is printed of a run of the tables has no head part, and its first line is one of such runs.
+pub fn plain_printed()
+    ensures { PlainPrinted }
 {}

@@ -145,3 +145,18 @@ pub data IsModelAnswer (p : Program) (layout : Layout) (b : Budget) (kind : Ques
       IsPrinted p layout b.unroll r (steps_of kind (last_of ending)) w →
       x ≡ record { status = 0; text = line (codes "accepted") ++ ending_text layout b ending w; evidence = RunOf w } →
       IsModelAnswer p layout b kind text x
+
+-- What is answered where the question is true of no reading, as that about head states is of a program, which has none.
+pub data IsFalseModelAnswer (p : Program) (layout : Layout) (b : Budget) (text : List ℕ) (x : Answer) : Type 0 where
+  too_large : text_limit < length text → x ≡ plain_answer 9 (line (codes "model: TooLarge")) → IsFalseModelAnswer p layout b text x
+  faulty : {points : List Point} {declared : List Declared} (n : ℕ) (f : ModelFault) → length text ≤ text_limit → AreNumbered p b.unroll points →
+      AreDeclared p layout points declared → IsModelFault declared text n f →
+      x ≡ plain_answer 9 (line (codes "model: line" ++ spaced (number_text n ∷ model_fault_words f ∷ []))) → IsFalseModelAnswer p layout b text x
+  never_true : {points : List Point} {declared : List Declared} {ds : List Definition} → length text ≤ text_limit → AreNumbered p b.unroll points →
+      AreDeclared p layout points declared → IsAnswer declared text ds → x ≡ plain_answer 9 (line (codes "model: false")) →
+      IsFalseModelAnswer p layout b text x
+
+-- what is answered by the question, where it is one of a program
+abbrev pub IsAskedModelAnswer : Program → Layout → Budget → Option Question → (text : List ℕ) → Answer → Type 0
+IsAskedModelAnswer p layout b None = IsFalseModelAnswer p layout b
+IsAskedModelAnswer p layout b (Some kind) = IsModelAnswer p layout b kind
