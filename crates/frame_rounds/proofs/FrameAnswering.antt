@@ -1,6 +1,6 @@
 -- What the layers below the clauses say of a question of a frame gives its answer.
-use Rattle.std.proofs.Common.{◌≡◌, inl, inr, refl, ap, sym, ◌∙◌, subst, arith, ℕ, ◌<◌, ◌^◌, Bool, true, false, List, [], Some, None, length}
-use Rattle.std.specs.Prelude.{◌&&◌, if◌then◌else◌, Contains}
+use Rattle.std.proofs.Common.{◌≡◌, inl, inr, refl, ap, sym, ◌∙◌, subst, add-one, arith, ℕ, zero, suc, ◌+◌, ◌<◌, ◌^◌, Bool, true, false, List, [], Option, Some, None, length}
+use Rattle.std.specs.Prelude.{◌&&◌, ◌==◌, if◌then◌else◌, slice_get, Contains}
 use Rattle.std.proofs.lemmas.Nat.{mod_below}
 use Rattle.std.proofs.Math.Path.{fun_ext}
 use Rattle.word_spec.specs.Words.{bit_at, word}
@@ -9,6 +9,7 @@ use Rattle.word_spec.specs.State.{State, Written}
 use Rattle.clause_spec.specs.Clauses.{Cnf, Satisfies}
 use Rattle.clause_spec.specs.Refutation.{LogLine, IsRefutation}
 use Rattle.clause_spec.specs.Empowering.{IsSpent}
+use Rattle.clause_spec.proofs.RefutationSound.{refutation_sound}
 use Rattle.machine_spec.specs.StateText.{Layout, IsWritten, known_or, register_at, start_of}
 use Rattle.bilv_spec.specs.Answers.{known_byte}
 use Rattle.bilv_spec.specs.Points.{is_known_at, byte_of_cell}
@@ -17,7 +18,7 @@ use Rattle.walk_spec.specs.Unrolled.{byte_of_runs}
 use Rattle.walk_spec.specs.Unrolling.{IsLaidOut}
 use Rattle.frame_spec.specs.Frames.{Contract, Frame, content_at}
 use Rattle.frame_spec.specs.FramePoints.{Anchor, AtEntry, AtHead, has_heads}
-use Rattle.frame_spec.specs.FrameQuestions.{Question, EntryQuestion, FailQuestion, StepQuestion, TurnQuestion, asks_head}
+use Rattle.frame_spec.specs.FrameQuestions.{Question, EntryQuestion, FailQuestion, StepQuestion, TurnQuestion, asks_head, Reading, IsTrueOver}
 use Rattle.frame_spec.specs.FrameReports.{AreOfQuestion, IsShown, Refutes, Spends}
 use Rattle.frame_spec.specs.FrameRuns.{Start}
 use Rattle.frame_spec.specs.FrameUnrolling.{IsRootOf}
@@ -26,12 +27,14 @@ use Rattle.frame_spec.specs.FrameWalk.{Root, UnrolledProgram, root_at}
 use Rattle.term_spec.specs.Terms.{TermReading}
 use Rattle.term_spec.specs.WalkQuestions.{QuestionTerm, is_asked}
 use Rattle.frame_terms.specs.FrameCells.{Cells, TellsCells}
-use Rattle.frame_terms.specs.FrameClauseForm.{MakesTrue, TellsClauses}
+use Rattle.frame_terms.specs.FrameClauseForm.{MakesTrue, PartInput, TellsClauses, bit_of, input_list}
 use Rattle.frame_terms.specs.FrameLayers.{IsFitting, IsLayered}
 use Rattle.frame_terms.specs.FrameStarts.{AreChoices, AreParts, GiveStarts, HasValues, IsWrittenAnchor, ShownEnds, ShownEndsAtHead, ShownEndsBy, shown_of, written_content}
-use Rattle.frame_terms.specs.PassiveFrames.{IsWalkable, TellsQuestion, inputs_of}
+use Rattle.frame_terms.specs.PassiveFrames.{IsWalkable, TellsQuestion, inputs_of, part_reading}
 use Rattle.frame_terms.proofs.FrameAsked.{frame_asked_is_right}
 use Rattle.frame_terms.proofs.FrameClauses.{frame_clauses_of_question}
+use Rattle.frame_terms.proofs.FrameReadings.{gives_filled, of, of_in_range, same_but_reads}
+use Rattle.frame_terms.proofs.FrameValues.{frame_reading_makes_true}
 use Rattle.frame_terms.proofs.PartStarts.{frame_starts_are_shown, frame_values_give_starts}
 use Rattle.asked_bytes.specs.AskedBytes.{AreAdded}
 use Rattle.start_value.specs.Starts.{layout_of, written_of}
@@ -39,14 +42,29 @@ use Rattle.question_form.specs.declared.unrolled.Unrolled.{Unrolled}
 use Rattle.question_form.specs.Forms.{AreRootsFormed}
 use Rattle.question_form.specs.FrameViews.{anchor_at, frame_unrolled_of}
 use Rattle.unroller.specs.RootPoints.{BeginAtOwn, IsEntryFirst}
-use Rattle.frame_rounds.specs.FrameGrounds.{AreSegments, IsFrameGround, ShowsQuestion, ShowsStart, choices_at, shown_at}
-use Rattle.frame_rounds.specs.declared.answers.Segments.{Segments}
+use Rattle.frame_start.specs.declared.meaning.Segments.{Segments}
+use Rattle.frame_start.specs.Segments.{choices_at}
+use Rattle.frame_rounds.specs.FrameGrounds.{AreSegments, IsFrameGround, ShowsQuestion, ShowsStart, shown_at}
 use Rattle.frame_rounds.proofs.FrameRoots.{entry_anchor, head_written, no_step, numbered, root_of_number}
 
 -- a byte that is known by a test is one where the test says so
 known_test : (b : Bool) (x y : ℕ) → (if b then Some x else None) ≡ Some y → b ≡ true
 known_test true x y h = refl
 known_test false x y h = absurd (cc)
+
+-- the bits of a reading as a valuation
+value_of : TermReading → Option PartInput → Bool
+value_of x None = false
+value_of x (Some y) = bit_of x y == 1
+
+abbrev bits_of : List PartInput → TermReading → ℕ → Bool
+bits_of inputs x zero = false
+bits_of inputs x (suc i) = value_of x (slice_get inputs i)
+
+has_bits : (inputs : List PartInput) (x : TermReading) (i : ℕ) (y : PartInput) → slice_get inputs i ≡ Some y →
+    bits_of inputs x (i + 1) ≡ (bit_of x y == 1)
+unfolding value_of
+has_bits inputs x i y h = rw (add-one) (ap (value_of x) h)
 
 module _ (un : Unrolled) (question : Question) (added : List ℕ) (t : QuestionTerm) (c : Cells) (cnf : Cnf) (walkable : IsWalkable (frame_unrolled_of un))
     (formed : AreRootsFormed un) (own : BeginAtOwn un) (first : IsEntryFirst un)
@@ -102,6 +120,20 @@ module _ (un : Unrolled) (question : Question) (added : List ℕ) (t : QuestionT
   -- a refutation of the clauses is one of the question
   pub refutes : (log : List LogLine) → IsRefutation cnf.variables cnf.clauses log → Refutes f k question (record { clauses = cnf; log = log })
   refutes log refuted = record { of_question = of_question; refutation = refuted }
+
+  -- and no reading that has the bytes that are asked makes the question true
+  pub none_true : (log : List LogLine) → IsRefutation cnf.variables cnf.clauses log → (r : Reading) → ¬ IsTrueOver f asked k r question
+  none_true log refuted r is =
+      let x : TermReading = of u (has_heads f) c layered.cells.formed r in
+      let makes = frame_reading_makes_true f contracts k question asked u t c layered r is (bits_of (input_list u (has_heads f) c) x) (record {
+        reading = x;
+        in_range = of_in_range u (has_heads f) c layered.cells.formed r is.reading;
+        bits = has_bits (input_list u (has_heads f) c) x;
+        same = same_but_reads u (has_heads f) x (part_reading u r).base;
+        gives = gives_filled u (has_heads f) c layered.cells.formed (part_reading u r);
+      }) in
+      let sat = told.extends.where_true (bits_of (input_list u (has_heads f) c) x) makes in
+      refutation_sound cnf.variables cnf.clauses log refuted sat.0 sat.2
 
   -- a spent log of the clauses is one of the question
   pub spends : (conflicts : ℕ) (log : List LogLine) → IsSpent cnf.clauses conflicts log → Spends f k question conflicts (record { clauses = cnf; log = log })

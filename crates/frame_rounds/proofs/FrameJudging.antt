@@ -30,11 +30,12 @@ use Rattle.question_form.specs.Questions.{term_of}
 use Rattle.mem_cells.specs.declared.cells.Celled.{Celled}
 use Rattle.mem_cells.specs.FrameViews.{AreFrameCellsOf, frame_cells_of, frame_of_cells}
 use Rattle.frame_start.specs.Files.{AreBroken, AreOne, ForSomeValues}
-use Rattle.frame_rounds.specs.FrameRounds.{AreJudged, IsFrameAskable, IsRound}
+use Rattle.frame_start.specs.Segments.{IsFrameAskable}
+use Rattle.frame_rounds.specs.FrameRounds.{AreJudged, IsRound}
 use Rattle.frame_rounds.specs.declared.answers.FrameAnswered.TheVariants as answer
 use Rattle.frame_rounds.specs.declared.rounds.Round.{Round}
 use Rattle.frame_rounds.specs.declared.rounds.Round.TheVariants.{Answered, Broken}
-use Rattle.frame_rounds.proofs.FrameAnswering.{refutes, spends, shows}
+use Rattle.frame_rounds.proofs.FrameAnswering.{none_true, refutes, spends, shows}
 
 -- what the layers say of a round's cells
 pub record AreLayers (added : List ℕ) (c : Celled) : Type 0 where
@@ -85,15 +86,23 @@ module _ (added : List ℕ) (conflicts : ℕ) (c : Celled) (cnf : Cnf) (h : AreL
 
   pub round_refuted : (log : Log) → IsRefutation (cnf_of cnf).variables (cnf_of cnf).clauses (lines_of log) →
       IsRound c.question.now added conflicts (Answered (answer.Refuted (record { clauses = cnf; log = log })))
-  round_refuted log refuted f contracts k layout g =
-      refutes un (frame_question_of c.question.now) added (term_of c.question.now) (frame_cells_of c) (cnf_of cnf) h.askable.walkable h.askable.roots
-      h.askable.own h.askable.first h.askable.bytes h.added_are h.term h.cells clauses f contracts k layout g (lines_of log) refuted
+  round_refuted log refuted = (
+    (λ f contracts k layout g.
+        refutes un (frame_question_of c.question.now) added (term_of c.question.now) (frame_cells_of c) (cnf_of cnf) h.askable.walkable h.askable.roots
+        h.askable.own h.askable.first h.askable.bytes h.added_are h.term h.cells clauses f contracts k layout g (lines_of log) refuted),
+    (λ f contracts k layout g.
+        none_true un (frame_question_of c.question.now) added (term_of c.question.now) (frame_cells_of c) (cnf_of cnf) h.askable.walkable h.askable.roots
+        h.askable.own h.askable.first h.askable.bytes h.added_are h.term h.cells clauses f contracts k layout g (lines_of log) refuted),
+  )
 
   pub round_spent : (log : Log) → IsSpent (cnf_of cnf).clauses conflicts (lines_of log) →
       IsRound c.question.now added conflicts (Answered (answer.Spent (record { clauses = cnf; log = log })))
-  round_spent log spent f contracts k layout g =
-      spends un (frame_question_of c.question.now) added (term_of c.question.now) (frame_cells_of c) (cnf_of cnf) h.askable.walkable h.askable.roots
-      h.askable.own h.askable.first h.askable.bytes h.added_are h.term h.cells clauses f contracts k layout g conflicts (lines_of log) spent
+  round_spent log spent = (
+    (λ f contracts k layout g.
+        spends un (frame_question_of c.question.now) added (term_of c.question.now) (frame_cells_of c) (cnf_of cnf) h.askable.walkable h.askable.roots
+        h.askable.own h.askable.first h.askable.bytes h.added_are h.term h.cells clauses f contracts k layout g conflicts (lines_of log) spent),
+    tt,
+  )
 
   module _ (bits : List Bool) (sat : Satisfies (valuation bits) (cnf_of cnf).clauses) where
     makes : MakesTrue (frame_of_cells c) (heads_of_question c.question.now) (frame_cells_of c) (valuation bits)
@@ -143,10 +152,13 @@ module _ (added : List ℕ) (conflicts : ℕ) (c : Celled) (cnf : Cnf) (h : AreL
             let asked = any_contained added a old in cc
 
     pub round_judged : (r : Round) → AreJudged c bits r → IsRound c.question.now added conflicts r
-    round_judged (Answered (answer.Sat s)) is = λ f contracts k layout g.
-        shows un (frame_question_of c.question.now) added (term_of c.question.now) (frame_cells_of c) (cnf_of cnf) h.askable.walkable h.askable.roots
-        h.askable.own h.askable.first h.askable.bytes h.added_are h.term h.cells clauses f contracts k layout g (valuation bits) sat s is.choices.count
-        is.parts (λ i l. is.choices.each i l)
+    round_judged (Answered (answer.Sat s)) is = (
+      (λ f contracts k layout g.
+          shows un (frame_question_of c.question.now) added (term_of c.question.now) (frame_cells_of c) (cnf_of cnf) h.askable.walkable h.askable.roots
+          h.askable.own h.askable.first h.askable.bytes h.added_are h.term h.cells clauses f contracts k layout g (valuation bits) sat s is.choices.count
+          is.parts (λ i l. is.choices.each i l)),
+      tt,
+    )
     round_judged (Answered (answer.Refuted proof)) is = absurd is
     round_judged (Answered (answer.Spent proof)) is = absurd is
     round_judged (Broken list) is = further list.items is.0 is.1

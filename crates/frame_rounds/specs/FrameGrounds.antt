@@ -1,6 +1,5 @@
 -- What a question of a frame comes to.
-use Rattle.std.specs.Prelude.{ℕ, ◌≡◌, ◌≤◌, ◌<◌, ◌+◌, ◌^◌, true, ◌&&◌, List, [], length, map, slice_index_or}
-use Rattle.std.specs.Global.{Vec}
+use Rattle.std.specs.Prelude.{ℕ, ◌≡◌, ◌≤◌, ◌<◌, ◌+◌, ◌^◌, true, ◌&&◌, List, [], length}
 use Rattle.word_spec.specs.Words.{word}
 use Rattle.machine_spec.specs.StateText.{Layout, IsWritten, last_step, start_of}
 use Rattle.bilv_spec.specs.Answers.{known_byte}
@@ -9,20 +8,22 @@ use Rattle.bilv_spec.specs.Points.{is_known_at}
 use Rattle.bilv_spec.specs.Verdict.{IsEntryState}
 use Rattle.frame_spec.specs.Frames.{Contract, Frame, is_head}
 use Rattle.frame_spec.specs.FramePoints.{AtEntry, AtHead, has_heads}
-use Rattle.frame_spec.specs.FrameQuestions.{Question, EntryQuestion, FailQuestion, StepQuestion, TurnQuestion, asks_head}
+use Rattle.frame_spec.specs.FrameQuestions.{Question, EntryQuestion, FailQuestion, StepQuestion, TurnQuestion, asks_head, Reading, IsTrueOver}
 use Rattle.frame_spec.specs.FrameReports.{IsShown, Refutes, Shown, Spends, shown_start}
 use Rattle.frame_spec.specs.FrameRuns.{Start}
 use Rattle.frame_spec.specs.FrameUnrolling.{IsUnrolling}
 use Rattle.frame_spec.specs.FrameVerdict.{IsStart, RunFails, RunTurns, Whole}
 use Rattle.frame_laws.specs.RunOfFrame.{IsAmong}
+use Rattle.term_spec.specs.WalkQuestions.{is_asked}
 use Rattle.frame_terms.specs.FrameStarts.{IsWrittenAnchor, shown_of}
 use Rattle.cnf_form.specs.Views.{proof_of}
 use Rattle.start_value.specs.Starts.{layout_of, written_of}
 use Rattle.question_form.specs.declared.unrolled.Unrolled.{Unrolled}
 use Rattle.question_form.specs.FrameViews.{anchor_at, frame_unrolled_of}
+use Rattle.frame_start.specs.declared.meaning.Segments.{Segments}
+use Rattle.frame_start.specs.Segments.{choices_at}
 use Rattle.frame_rounds.specs.declared.answers.FrameAnswered.{FrameAnswered}
 use Rattle.frame_rounds.specs.declared.answers.FrameAnswered.TheVariants.{Sat, Refuted, Spent}
-use Rattle.frame_rounds.specs.declared.answers.Segments.{Segments}
 
 -- The unrolled frame is that of a frame that steps over no contract, over the form of its states, in which the steps of its points can be written. Heads are
 -- addresses that a state can be at.
@@ -36,10 +37,6 @@ pub record IsFrameGround (f : Frame) (contracts : List Contract) (k : ℕ) (layo
   pub heads : u.heads ≡ has_heads f
   pub form : layout_of u.form ≡ layout
   pub steps : length (frame_unrolled_of u).points ≤ last_step + 1
-
--- the choices of the root of a number, by the steps of its segment
-abbrev pub choices_at : List (Vec (ℕ × ℕ)) → ℕ → List (ℕ × ℕ)
-choices_at lists i = slice_index_or (map (λ v. v.items) lists) i []
 
 -- what is shown of the segment of the root of a number
 abbrev pub shown_at : Unrolled → Segments → ℕ → Shown
@@ -82,3 +79,11 @@ abbrev pub AnswersFrame : Unrolled → Question → (conflicts : ℕ) → FrameA
 AnswersFrame u question conflicts a =
     (f : Frame) (contracts : List Contract) (k : ℕ) (layout : Layout) → IsFrameGround f contracts k layout u →
     IsFrameAnswered f k layout question u conflicts a
+
+-- where a question is refuted over the bytes that were asked, no reading that has those makes it true
+abbrev pub RulesOut : Unrolled → Question → (added : List ℕ) → FrameAnswered → Type 0
+RulesOut u question added (Refuted proof) =
+    (f : Frame) (contracts : List Contract) (k : ℕ) (layout : Layout) → IsFrameGround f contracts k layout u → (r : Reading) →
+    ¬ IsTrueOver f (is_asked added (frame_unrolled_of u).literals) k r question
+RulesOut u question added (Sat s) = Unit {0}
+RulesOut u question added (Spent proof) = Unit {0}

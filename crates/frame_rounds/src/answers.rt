@@ -1,16 +1,6 @@
 //! What questions of frames come to.
 use cnf_form::Proof;
-use frame_start::Parts;
-
-/// What values show of the segments of a frame.
-#[derive(Drop)]
-pub struct Segments {
-    /// The entry and the head as they are written, without choices. The head is one only where the question speaks of head states.
-    pub parts: Parts,
-    /// For each root, in their order, the choices of its segment by steps, those that are not 0. A root of a head has none where the question does not speak of
-    /// head states, since its segment cannot be shown.
-    pub choices: Vec<Vec<(u64, u8)>>,
-}
+use frame_start::Segments;
 
 /// What a question of a frame comes to.
 #[derive(Drop)]
@@ -21,4 +11,11 @@ pub enum FrameAnswered {
     Refuted(Proof),
     /// The conflicts are spent.
     Spent(Proof),
+}
+
+/// What a question of a frame comes to, and the addresses whose bytes were asked for it besides those of literals.
+#[derive(Drop)]
+pub struct FrameDecided {
+    pub answered: FrameAnswered,
+    pub added: Vec<u32>,
 }

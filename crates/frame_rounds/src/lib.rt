@@ -5,7 +5,6 @@
 mod answers;
 mod deciding;
 mod rounds;
-mod segments;
 
-pub use answers::{FrameAnswered, Segments};
-pub use deciding::decide_frame;
+pub use answers::{FrameAnswered, FrameDecided};
+pub use deciding::{decide_frame, decide_frame_from};

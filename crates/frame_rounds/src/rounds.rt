@@ -7,13 +7,13 @@ ghost use Rattle.question_form.specs.FrameQuestions.{frame_of_question, frame_qu
 ghost use Rattle.question_form.specs.Questions.{term_of};
 ghost use Rattle.mem_cells.specs.FrameViews.{frame_cells_of, frame_of_cells};
 ghost use Rattle.frame_start.specs.Files.{AreOne, ForSomeValues};
-ghost use Rattle.frame_rounds.specs.FrameRounds.{AreJudged, IsFrameAskable, IsRound};
+ghost use Rattle.frame_start.specs.Segments.{IsFrameAskable};
+ghost use Rattle.frame_rounds.specs.FrameRounds.{AreJudged, IsRound};
 
 use crate::FrameAnswered;
-use crate::segments::segments_of;
 use bit_blast::blast_frame;
 use cnf_form::Proof;
-use frame_start::{broken_reads, parts_of};
+use frame_start::{Meaning, meaning_of};
 use mem_cells::{Celled, frame_cells};
 use question_form::Question;
 use sat_core::{Answer, solve};
@@ -35,13 +35,10 @@ fn judge_values(alloc: Global, celled: &Celled, values: &[bool]) -> Result<Round
     requires askable { IsFrameAskable celled.now.question.now.passive.now }
     ensures { IfOk result (λ r. AreJudged celled.now values.now r) }
 {
-    let broken = broken_reads(alloc, celled, values)?;
-    if broken.is_empty() {
-        let parts = parts_of(alloc, celled, values)?;
-        let segments = segments_of(alloc, celled, values, parts)?;
-        return Ok(Round::Answered(FrameAnswered::Sat(segments)));
+    match meaning_of(alloc, celled, values)? {
+        Meaning::Shown(segments) => Ok(Round::Answered(FrameAnswered::Sat(segments))),
+        Meaning::Broken(broken) => Ok(Round::Broken(broken)),
     }
-    Ok(Round::Broken(broken))
 }
 
 /// One round of a question over the bytes of the file at some addresses and those of its literals, which are all known. The error is want of memory.

@@ -1,41 +1,34 @@
 -- The choices of the points that are met are those of the walk from a root.
-use Rattle.std.proofs.Common.{◌≡◌, inl, inr, refl, ap, sym, ◌∙◌, subst, arith, ℕ, zero, suc, ◌+◌, ◌%◌, ◌^◌, ◌<◌, ◌≤◌, [], ◌∷◌, List, Option, Some, None, Bool, true, false, length, map, get_or}
+use Rattle.std.proofs.Common.{◌≡◌, inl, inr, refl, ap, sym, ◌∙◌, arith, ℕ, zero, suc, ◌+◌, ◌<◌, ◌≤◌, [], ◌∷◌, List, Bool, true, false, length, map, get_or}
 use Rattle.std.specs.Prelude.{◌==◌, ◌&&◌, Contains, slice_index, slice_index_or, if◌then◌else◌}
 use Rattle.std.specs.Str.{bytes_eq}
 use Rattle.std.proofs.lemmas.Bool.Decides.{nat_tests}
 use Rattle.std.proofs.lemmas.List.Elements.{Contains-get_or}
 use Rattle.word_spec.specs.Words.{bit}
-use Rattle.word_spec.specs.Memory.{byte_in}
-use Rattle.word_spec.specs.State.{Written}
-use Rattle.machine_spec.specs.StateText.{AreRising}
 use Rattle.bilv_spec.proofs.Pigeons.{truth}
 use Rattle.bilv_spec.proofs.PointSteps.{and_both, same_list, same_number}
 use Rattle.bilv_spec.proofs.PointTests.{same_point_self}
-use Rattle.frame_spec.specs.Frames.{Content, content_of}
+use Rattle.frame_spec.specs.Frames.{Content}
 use Rattle.frame_spec.specs.FramePoints.{Anchor, AtEntry, AtHead}
 use Rattle.frame_spec.specs.FrameQuestions.{Reading, IsReading}
 use Rattle.frame_spec.specs.FrameWalk as walks
 use Rattle.frame_spec.specs.FrameWalk.{UnrolledPoint, UnrolledProgram, Root, point_at, root_at, Walk, WalkIsAt, WalkArrives, WalkExits, WalkFails, WalkTurns, WalkIsCut, WalkBreaks, walk_on, walk_of, is_assumed, swept, same_anchor, met_of}
 use Rattle.frame_spec.proofs.SweepWalks.{sweep_is_walks}
-use Rattle.term_spec.specs.Terms.{TermReading, term_word}
 use Rattle.frame_terms.specs.PassiveFrames as frames
 use Rattle.frame_terms.specs.PassiveFrames.{part_reading}
 use Rattle.frame_terms.specs.FrameStarts.{IsReadingOfParts, IsWrittenAnchor, place_choice}
 use Rattle.frame_terms.specs.FrameStarts as starts
 use Rattle.term_dag.specs.declared.nodes.Term.{Term}
 use Rattle.term_dag.specs.Readings.{AreWords}
-use Rattle.start_value.specs.Starts.{layout_of}
 use Rattle.question_form.specs.declared.unrolled.Point.{Point}
 use Rattle.question_form.specs.declared.unrolled.Root as declared
 use Rattle.question_form.specs.declared.unrolled.Unrolled.{Unrolled}
 use Rattle.question_form.specs.Forms.{AreRootsFormed}
-use Rattle.question_form.specs.FrameQuestions.{frame_passive_of, heads_of_question, is_of_heads}
 use Rattle.question_form.specs.FrameViews.{anchor_at, frame_unrolled_of, no_root, points_of, root_of}
-use Rattle.question_form.specs.declared.questions.Passive.{Passive}
-use Rattle.bit_blast.specs.Steps.{AreChoices, count_met, is_met_by}
+use Rattle.bit_blast.specs.Steps.{count_met, is_met_by}
 use Rattle.bit_blast.proofs.StartInputs.{mapped_get}
 use Rattle.unroller.specs.RootPoints.{BeginAtOwn, root_of_point, no_point}
-use Rattle.frame_start.specs.Met.{is_met_of, shown_reading}
+use Rattle.frame_start.specs.Met.{is_met_of}
 
 -- ---- anchors
 

@@ -1,9 +1,7 @@
 -- Kept bytes that are stored one by one.
-use Rattle.std.proofs.Common.{◌≡◌, inl, inr, refl, ap, sym, ◌∙◌, subst, arith, ℕ, zero, suc, ◌+◌, ◌-◌, ◌^◌, ◌<◌, ◌≤◌, Bool, true, false, List, [], ◌∷◌, length, drop, map, get_or, None, Some, Option}
-use Rattle.std.specs.Prelude.{◌==◌, ◌&&◌, nat_le, nat_lt, if◌then◌else◌, min, All}
-use Rattle.std.proofs.lemmas.Bool.Decides.{nat_tests}
+use Rattle.std.proofs.Common.{◌≡◌, inl, inr, ap, sym, ◌∙◌, ℕ, ◌+◌, ◌-◌, ◌<◌, List, length, drop, map, get_or, None}
+use Rattle.std.specs.Prelude.{if◌then◌else◌, min, All}
 use Rattle.word_spec.specs.Words.{word}
-use Rattle.word_spec.specs.Memory.{memory_of}
 use Rattle.machine_spec.specs.StateText.{known_or}
 use Rattle.bilv_spec.proofs.Pigeons.{truth}
 use Rattle.walk_spec.specs.Unrolled.{AddressRun, byte_of_runs, is_in}

@@ -1,7 +1,9 @@
 pub mod PartInputs
 pub mod CellInputs
 pub mod WrittenParts
+pub mod WholeValues
 pub mod KeptBytes
 pub mod ChosenSteps
 pub mod MetWords
 pub mod RootChoices
+pub mod SegmentLists

@@ -1,27 +1,22 @@
 -- The words of the points that are met, from the parts of values, and their choices.
-use Rattle.std.proofs.Common.{◌≡◌, inl, inr, refl, ap, sym, ◌∙◌, subst, arith, ℕ, zero, suc, ◌+◌, ◌%◌, ◌^◌, ◌<◌, ◌≤◌, [], ◌∷◌, List, Option, Some, None, Bool, true, false, length, map, get_or, bit_xor}
-use Rattle.std.specs.Prelude.{◌==◌, ◌&&◌, Contains, slice_index, slice_index_or, if◌then◌else◌}
-use Rattle.std.proofs.lemmas.Bool.{cases_lt}
-use Rattle.std.proofs.lemmas.Bool.Decides.{nat_tests}
+use Rattle.std.proofs.Common.{◌≡◌, refl, ap, sym, ◌∙◌, subst, arith, ℕ, zero, suc, ◌%◌, ◌<◌, [], ◌∷◌, List, Bool, true, false, length, bit_xor}
+use Rattle.std.specs.Prelude.{slice_index, if◌then◌else◌}
 use Rattle.std.proofs.Math.Path.{fun_ext}
 use Rattle.word_spec.specs.Memory.{memory_of}
 use Rattle.word_spec.specs.State.{State, Written}
 use Rattle.clause_spec.specs.Clauses.{valuation}
-use Rattle.bilv_spec.proofs.PointsInGraph.{of_filter}
 use Rattle.walk_spec.specs.Unrolling.{IsLaidOut}
-use Rattle.frame_spec.specs.Frames.{Content, content_at, content_of}
+use Rattle.frame_spec.specs.Frames.{Content, content_of}
 use Rattle.frame_spec.specs.FrameQuestions as questions
-use Rattle.frame_spec.specs.FrameWalk.{UnrolledProgram, UnrolledPoint, point_at}
-use Rattle.frame_spec.specs.FrameWalk as walks
-use Rattle.term_spec.specs.Terms.{TermReading, InRange, TermNode, term_word}
+use Rattle.frame_spec.specs.FrameWalk.{UnrolledProgram, point_at}
+use Rattle.term_spec.specs.Terms.{TermReading, TermNode}
 use Rattle.frame_terms.specs.PassiveFrames.{part_reading, inputs_of, NamesRegister, NamesFlag, NamesMemory, AreNamedBelow, DrawsAt}
-use Rattle.frame_terms.specs.FrameCells.{Cells}
-use Rattle.frame_terms.specs.FrameStarts.{HasValues, AreParts, IsPart, IsReadingOfParts, part_memory, place_choice, written_content}
-use Rattle.frame_terms.specs.FrameAgreement.{HaveSameInputs}
+use Rattle.frame_terms.specs.FrameStarts.{HasValues, AreParts, IsReadingOfParts, place_choice}
 use Rattle.frame_terms.proofs.PartStarts.{flag_same, register_same}
 use Rattle.frame_terms.proofs.PartValues.{frame_terms_agree}
+use Rattle.byte_mem.specs.declared.bytes.Bytes32.{Bytes32}
 use Rattle.term_dag.specs.declared.values.Reading.{Reading}
-use Rattle.term_dag.specs.Readings.{AreWords, part_in, reading_of}
+use Rattle.term_dag.specs.Readings.{AreWords, reading_of}
 use Rattle.start_value.specs.Starts.{layout_of}
 use Rattle.question_form.specs.FrameQuestions.{heads_of_question, is_of_heads}
 use Rattle.mem_cells.specs.declared.cells.Celled.{Celled}
@@ -29,11 +24,11 @@ use Rattle.mem_cells.specs.FrameViews.{frame_cells_of, frame_of_cells}
 use Rattle.bit_blast.specs.declared.input_places.InputPlaces.{InputPlaces}
 use Rattle.bit_blast.specs.Laid.{AreFramePlaces}
 use Rattle.bit_blast.specs.Places.{IsReadingAt}
-use Rattle.bit_blast.specs.Steps.{choice_at, choice_by}
+use Rattle.bit_blast.specs.Steps.{choice_at}
 use Rattle.bit_blast.proofs.FramePlaces.{at_of_bits, drawn_there, flag_of, number_of}
-use Rattle.frame_start.specs.Files.{ForSomeValues, UnderValues}
-use Rattle.frame_start.specs.Inputs.{HasPartAt, both_reading}
-use Rattle.frame_start.specs.Met.{AreHeadReadings, HasMetWords, IsOfPart, shown_reading}
+use Rattle.frame_start.specs.Files.{ForSomeValues}
+use Rattle.frame_start.specs.Inputs.{HasInputs, HasPartAt, both_reading}
+use Rattle.frame_start.specs.Met.{AreHeadReadings, IsOfPart, shown_reading}
 use Rattle.frame_start.proofs.PartInputs.{choice_is}
 
 small_byte : (a b : ℕ) → a < 256 → a ≡ b → a % 256 ≡ b
@@ -43,6 +38,10 @@ pub memory_is : (r : Reading) (entries : List (ℕ × ℕ)) → r.memory.entries
     memory_of entries a ≡ b → (reading_of r).mem 0 a ≡ b
 memory_is r entries e f a b l h =
     ap (λ z. bit_xor (z % 256) (memory_of r.memory.entries a % 256)) f ∙ ap (λ z. memory_of z a % 256) e ∙ small_byte (memory_of entries a) b l h
+
+pub with_memory : (p : InputPlaces) (values : List Bool) (part n : ℕ) (r : Reading) (m : Bytes32) → HasInputs p values part n r →
+    HasInputs p values part n (record r { memory = m })
+with_memory p values part n r m h x range at = let k = h x range at in record { regs = k.regs; flags = k.flags; base = k.base }
 
 module _ (c : Celled) (values : List Bool) (p : InputPlaces)
     (is : AreFramePlaces (frame_of_cells c) (heads_of_question c.question.now) (frame_cells_of c) p) (entry head : Written) where
@@ -63,7 +62,7 @@ module _ (c : Celled) (values : List Bool) (p : InputPlaces)
     at : IsReadingAt p (valuation values) some.0
     at = at_of_bits (frame_of_cells c) (heads_of_question c.question.now) (frame_cells_of c) p is (valuation values) some.0 some.1.in_range some.1.bits
 
-    has_entry : HasPartAt p some.0 0 0 first
+    has_entry : HasPartAt p some.0 0 (length c.addresses.items) first
     has_entry = of_entry.has some.0 some.1.in_range at
 
     entry_register : (n : ℕ) → NamesRegister (frame_of_cells c) (heads_of_question c.question.now) 0 n → (reading_of first).regs 0 n ≡ r.state.regs n
@@ -132,7 +131,7 @@ module _ (c : Celled) (values : List Bool) (p : InputPlaces)
             (record { regs = regs; flags = flags; choice = choice_same; base = λ q j h m. absurd (omega arith) }) memories place l;
       }
         where
-          has_head : HasPartAt p some.0 1 0 second
+          has_head : HasPartAt p some.0 1 (length c.addresses.items) second
           has_head = of_head.has some.0 some.1.in_range at
 
           regs : (q n : ℕ) → NamesRegister (frame_of_cells c) (heads_of_question c.question.now) q n →

@@ -1,6 +1,6 @@
 -- The choices of a root from the parts of values.
-use Rattle.std.proofs.Common.{◌≡◌, inl, inr, refl, ap, sym, ◌∙◌, subst, arith, ℕ, zero, suc, ◌+◌, ◌*◌, ◌<◌, ◌≤◌, [], ◌∷◌, List, Option, Some, None, Bool, true, false, length, map, get_or}
-use Rattle.std.specs.Prelude.{All, Contains, slice_get, slice_index, slice_index_or, if◌then◌else◌}
+use Rattle.std.proofs.Common.{◌≡◌, inl, inr, refl, ap, sym, ◌∙◌, subst, arith, ℕ, zero, suc, ◌+◌, ◌*◌, ◌<◌, ◌≤◌, [], ◌∷◌, List, Option, Some, None, Bool, true, false, length, map}
+use Rattle.std.specs.Prelude.{slice_index, slice_index_or, if◌then◌else◌}
 use Rattle.std.proofs.lemmas.Bool.{cases_lt}
 use Rattle.std.proofs.lemmas.Option.{slice_get_within}
 use Rattle.word_spec.specs.Memory.{byte_in}
@@ -9,24 +9,18 @@ use Rattle.word_spec.specs.State.{State, Written}
 use Rattle.clause_spec.specs.Clauses.{valuation}
 use Rattle.bilv_spec.proofs.Pigeons.{at_in}
 use Rattle.bilv_spec.proofs.PointsInGraph.{of_filter}
-use Rattle.frame_spec.specs.Frames.{Content, content_of}
+use Rattle.frame_spec.specs.Frames.{content_of}
 use Rattle.frame_spec.specs.FrameQuestions as questions
 use Rattle.frame_spec.specs.FrameQuestions.{IsReading}
 use Rattle.frame_spec.specs.FrameWalk.{UnrolledPoint, Root, Walk, WalkIsAt, point_at, root_at, walk_of, is_assumed}
 use Rattle.frame_spec.specs.FrameWalk as walks
 use Rattle.term_spec.specs.Terms.{TermReading}
-use Rattle.frame_terms.specs.PassiveFrames as frames
-use Rattle.frame_terms.specs.PassiveFrames.{part_reading, DrawsAt}
 use Rattle.frame_terms.specs.FrameClauseForm.{drawn_places}
-use Rattle.frame_terms.specs.FrameStarts.{HasValues, AreChoices, IsReadingOfParts, IsWrittenAnchor, place_choice}
+use Rattle.frame_terms.specs.FrameStarts.{HasValues, AreChoices, IsWrittenAnchor, place_choice}
 use Rattle.term_dag.specs.declared.nodes.Term.{Term}
-use Rattle.term_dag.specs.Readings.{AreWords}
 use Rattle.start_value.specs.Starts.{layout_of}
-use Rattle.question_form.specs.declared.unrolled.Unrolled.{Unrolled}
-use Rattle.question_form.specs.Forms.{AreRootsFormed}
 use Rattle.question_form.specs.FrameQuestions.{frame_passive_of, heads_of_question, is_of_heads}
-use Rattle.question_form.specs.FrameViews.{anchor_at, frame_unrolled_of}
-use Rattle.unroller.specs.RootPoints.{BeginAtOwn}
+use Rattle.question_form.specs.FrameViews.{anchor_at}
 use Rattle.mem_cells.specs.declared.cells.Celled.{Celled}
 use Rattle.mem_cells.specs.FrameViews.{frame_cells_of, frame_of_cells}
 use Rattle.bit_blast.specs.declared.input_places.InputPlaces.{InputPlaces}
@@ -40,6 +34,7 @@ use Rattle.bit_blast.proofs.StartInputs.{count_few, mapped_get}
 use Rattle.bit_blast.proofs.StepChoices.{any_default}
 use Rattle.frame_start.specs.Files.{UnderValues}
 use Rattle.frame_start.specs.Met.{HasMetWords, is_met_of, shown_reading}
+use Rattle.frame_start.specs.Segments.{IsFrameAskable}
 use Rattle.frame_start.proofs.ChosenSteps.{on_walk, points_long, root_anchor, same_assumed, same_walk}
 
 past : (xs : List ℕ) (i : ℕ) → length xs ≤ i → slice_index xs i ≡ 0
@@ -93,9 +88,15 @@ module _ (c : Celled) (values : List Bool) (p : InputPlaces)
         by None e = unlisted i e ∙ sym (ap (λ z. if z then x.choice i else 0) (undrawn i l e))
         by (Some k) e = listed i k e ∙ sym (ap (λ z. if z then x.choice i else 0) (drawn_by i k e))
 
-  -- where no point draws
-  no_places : p.choices ≡ 0 → (i : ℕ) → i < length (frame_of_cells c).points → (x : TermReading) → 0 ≡ place_choice (frame_of_cells c) x i
-  no_places e i l x = by (point_at (frame_of_cells c) i).draws refl
+behind : (qs : List UnrolledPoint) (i : ℕ) → length qs ≤ i → slice_index_or qs i walks.no_point ≡ walks.no_point
+behind [] i l = refl
+behind (q ∷ qs) zero l = absurd (omega arith)
+behind (q ∷ qs) (suc i) l = behind qs i (omega arith)
+
+module _ (c : Celled) (values : List Bool) (p : InputPlaces)
+    (is : AreFramePlaces (frame_of_cells c) (heads_of_question c.question.now) (frame_cells_of c) p) (e : p.choices ≡ 0) (x : TermReading) where
+  drawn_none : (i : ℕ) → i < length (frame_of_cells c).points → 0 ≡ place_choice (frame_of_cells c) x i
+  drawn_none i l = by (point_at (frame_of_cells c) i).draws refl
     where
       by : (b : Bool) → (point_at (frame_of_cells c) i).draws ≡ b → 0 ≡ (if b then x.choice i else 0)
       by true t =
@@ -103,105 +104,98 @@ module _ (c : Celled) (values : List Bool) (p : InputPlaces)
           absurd (let a = k.1.2 in omega arith)
       by false t = refl
 
-behind : (qs : List UnrolledPoint) (i : ℕ) → length qs ≤ i → slice_index_or qs i walks.no_point ≡ walks.no_point
-behind [] i l = refl
-behind (q ∷ qs) zero l = absurd (omega arith)
-behind (q ∷ qs) (suc i) l = behind qs i (omega arith)
+  -- where no point draws there are no choices
+  pub none_drawn : (i : ℕ) → 0 ≡ place_choice (frame_of_cells c) x i
+  none_drawn i = elim (cases_lt i (length (frame_of_cells c).points)) [
+    | inl l ↦ drawn_none i l
+    | inr l ↦ sym (ap (λ (q : UnrolledPoint). if q.draws then x.choice i else 0) (behind (frame_of_cells c).points i (omega arith)))
+  ]
 
-module _ (c : Celled) (values : List Bool) (p : InputPlaces)
-    (is : AreFramePlaces (frame_of_cells c) (heads_of_question c.question.now) (frame_cells_of c) p) (entry head : Written) (n : ℕ) where
-  -- there are no choices where no point draws
-  pub none_chosen : p.choices ≡ 0 → UnderValues c values (λ x. AreChoices (frame_of_cells c) (is_of_heads c.question.now)
-      (layout_of c.question.now.passive.now.unrolled.now.form) x entry head (root_at (frame_of_cells c) n) [])
-  none_chosen e x hx = record {
+  pub undrawn_are : (entry head : Written) (n : ℕ) → AreChoices (frame_of_cells c) (is_of_heads c.question.now)
+      (layout_of c.question.now.passive.now.unrolled.now.form) x entry head (root_at (frame_of_cells c) n) []
+  undrawn_are entry head n = record {
     within = λ i d l. absurd (omega arith);
     rise = λ i j d l m. absurd (omega arith);
-    follows = λ r isr assumed step i d w. none i;
+    follows = λ r isr assumed step i d w. none_drawn i;
   }
-    where
-      none : (i : ℕ) → 0 ≡ place_choice (frame_of_cells c) x i
-      none i = elim (cases_lt i (length (frame_of_cells c).points)) [
-        | inl l ↦ no_places c values p is e i l x
-        | inr l ↦ sym (ap (λ (q : UnrolledPoint). if q.draws then x.choice i else 0) (behind (frame_of_cells c).points i (omega arith)))
-      ]
 
-  module _ (walkable : frames.IsWalkable (frame_of_cells c)) (formed : AreRootsFormed c.question.now.passive.now.unrolled.now)
-      (own : BeginAtOwn c.question.now.passive.now.unrolled.now)
-      (passive : frames.IsPassive (frame_of_cells c) (heads_of_question c.question.now) (frame_passive_of c.question.now.passive.now))
-      (l : n < length c.question.now.passive.now.unrolled.now.roots.items)
-      (written : IsWrittenAnchor (is_of_heads c.question.now) (anchor_at c.question.now.passive.now.unrolled.now n)) where
-    pub met_long : length c.question.now.passive.now.unrolled.now.points.items ≡ length c.question.now.passive.now.met.items
-    met_long =
-        let a = points_long c.question.now.passive.now.unrolled.now c.question.now.passive.now.unrolled.now.points.items in
-        let b = passive.count in
-        let d = terms_long c.question.now.passive.now.met.items in
-        omega arith
+-- the points have terms
+module _ (c : Celled) (can : IsFrameAskable c.question.now.passive.now) where
+  pub met_long : length c.question.now.passive.now.unrolled.now.points.items ≡ length c.question.now.passive.now.met.items
+  met_long =
+      let a = points_long c.question.now.passive.now.unrolled.now c.question.now.passive.now.unrolled.now.points.items in
+      let b = can.passive.count in
+      let d = terms_long c.question.now.passive.now.met.items in
+      omega arith
 
-    pub met_inside : (ws : List ℕ) → length ws ≡ length c.question.now.passive.now.dag → (i : ℕ) (d : Term) →
-        i < length c.question.now.passive.now.met.items → (slice_index_or c.question.now.passive.now.met.items i d).0 < length ws
-    met_inside ws e i d m =
-        let a = met_long in
+  pub met_inside : (ws : List ℕ) → length ws ≡ length c.question.now.passive.now.dag → (i : ℕ) (d : Term) →
+      i < length c.question.now.passive.now.met.items → (slice_index_or c.question.now.passive.now.met.items i d).0 < length ws
+  met_inside ws e i d m =
+      let a = met_long in
+      let f = points_long c.question.now.passive.now.unrolled.now c.question.now.passive.now.unrolled.now.points.items in
+      let b = (can.passive.bits i (omega arith)).0 in
+      let g : slice_index (map (λ (t : Term). t.0) c.question.now.passive.now.met.items) i ≡ (slice_index_or c.question.now.passive.now.met.items i d).0 =
+      mapped_get c.question.now.passive.now.met.items i
+      ∙ ap (λ (t : Term). t.0) (any_default c.question.now.passive.now.met.items i (record { 0 = 0 }) d m) in
+      omega arith
+
+module _ (c : Celled) (can : IsFrameAskable c.question.now.passive.now) (values : List Bool) (entry head : Written) (n : ℕ)
+    (l : n < length c.question.now.passive.now.unrolled.now.roots.items)
+    (written : IsWrittenAnchor (is_of_heads c.question.now) (anchor_at c.question.now.passive.now.unrolled.now n)) where
+  reading_by : (b : Bool) (r : questions.Reading) → IsReading r → IsReading (shown_reading b r)
+  reading_by true r h = h
+  reading_by false r h = record {
+    state = h.state;
+    head = record { regs = h.state.regs; flags = h.state.flags; mem = h.state.mem };
+    choice = h.choice;
+    given = h.given;
+  }
+
+  state_by : (b : Bool) (r : questions.Reading) → (shown_reading b r).state ≡ r.state
+  state_by true r = refl
+  state_by false r = refl
+
+  entry_anchor : is_of_heads c.question.now ≡ false →
+      IsWrittenAnchor false (point_at (frame_of_cells c) (root_at (frame_of_cells c) n).place).point.anchor
+  entry_anchor t =
+      subst (IsWrittenAnchor false) (sym (root_anchor c.question.now.passive.now.unrolled.now can.walkable can.roots can.own n l))
+      (subst (λ (b : Bool). IsWrittenAnchor b (anchor_at c.question.now.passive.now.unrolled.now n)) t written)
+
+  assumed_by : (b : Bool) → is_of_heads c.question.now ≡ b → (r : questions.Reading) → is_assumed (frame_of_cells c) r (root_at (frame_of_cells c) n) ≡ true →
+      is_assumed (frame_of_cells c) (shown_reading b r) (root_at (frame_of_cells c) n) ≡ true
+  assumed_by true t r h = h
+  assumed_by false t r h = same_assumed (frame_of_cells c) r (content_of r.state) (root_at (frame_of_cells c) n) (entry_anchor t) ∙ h
+
+  walk_by : (b : Bool) → is_of_heads c.question.now ≡ b → (r : questions.Reading) (step : ℕ) (w : Walk) →
+      walk_of (frame_of_cells c) r (root_at (frame_of_cells c) n) step ≡ w →
+      walk_of (frame_of_cells c) (shown_reading b r) (root_at (frame_of_cells c) n) step ≡ w
+  walk_by true t r step w h = h
+  walk_by false t r step w h = same_walk (frame_of_cells c) r (content_of r.state) (root_at (frame_of_cells c) n) (entry_anchor t) step ∙ h
+
+  pub chosen_are : (ws : List ℕ) → HasMetWords c values entry head ws → (chosen : List ℕ) →
+      UnderValues c values (λ x. (i : ℕ) → i < length (frame_of_cells c).points → slice_index chosen i ≡ place_choice (frame_of_cells c) x i) →
+      (xs : List (ℕ × ℕ)) → steps.AreChoices (is_met_of c.question.now.passive.now.unrolled.now.points.items n c.question.now.passive.now.met.items ws)
+      (slice_index chosen) (length c.question.now.passive.now.met.items)
+      (count_met (is_met_of c.question.now.passive.now.unrolled.now.points.items n c.question.now.passive.now.met.items ws)
+      (length c.question.now.passive.now.met.items)) xs →
+      UnderValues c values (λ x. AreChoices (frame_of_cells c) (is_of_heads c.question.now)
+      (layout_of c.question.now.passive.now.unrolled.now.form) x entry head (root_at (frame_of_cells c) n) xs)
+  chosen_are ws words chosen place xs h x hx = record {
+    within = λ i d m. (let k = h.within i d m in
+        let a = k.0 in
+        let b = count_few (is_met_of c.question.now.passive.now.unrolled.now.points.items n c.question.now.passive.now.met.items ws)
+        (length c.question.now.passive.now.met.items) in
+        let e = met_long c can in
         let f = points_long c.question.now.passive.now.unrolled.now c.question.now.passive.now.unrolled.now.points.items in
-        let b = (passive.bits i (omega arith)).0 in
-        let g : slice_index (map (λ (t : Term). t.0) c.question.now.passive.now.met.items) i ≡ (slice_index_or c.question.now.passive.now.met.items i d).0 =
-        mapped_get c.question.now.passive.now.met.items i
-        ∙ ap (λ (t : Term). t.0) (any_default c.question.now.passive.now.met.items i (record { 0 = 0 }) d m) in
-        omega arith
-
-    reading_by : (b : Bool) (r : questions.Reading) → IsReading r → IsReading (shown_reading b r)
-    reading_by true r h = h
-    reading_by false r h = record {
-      state = h.state;
-      head = record { regs = h.state.regs; flags = h.state.flags; mem = h.state.mem };
-      choice = h.choice;
-      given = h.given;
-    }
-
-    state_by : (b : Bool) (r : questions.Reading) → (shown_reading b r).state ≡ r.state
-    state_by true r = refl
-    state_by false r = refl
-
-    entry_anchor : is_of_heads c.question.now ≡ false →
-        IsWrittenAnchor false (point_at (frame_of_cells c) (root_at (frame_of_cells c) n).place).point.anchor
-    entry_anchor t =
-        subst (IsWrittenAnchor false) (sym (root_anchor c.question.now.passive.now.unrolled.now walkable formed own n l))
-        (subst (λ (b : Bool). IsWrittenAnchor b (anchor_at c.question.now.passive.now.unrolled.now n)) t written)
-
-    assumed_by : (b : Bool) → is_of_heads c.question.now ≡ b → (r : questions.Reading) → is_assumed (frame_of_cells c) r (root_at (frame_of_cells c) n) ≡ true →
-        is_assumed (frame_of_cells c) (shown_reading b r) (root_at (frame_of_cells c) n) ≡ true
-    assumed_by true t r h = h
-    assumed_by false t r h = same_assumed (frame_of_cells c) r (content_of r.state) (root_at (frame_of_cells c) n) (entry_anchor t) ∙ h
-
-    walk_by : (b : Bool) → is_of_heads c.question.now ≡ b → (r : questions.Reading) (step : ℕ) (w : Walk) →
-        walk_of (frame_of_cells c) r (root_at (frame_of_cells c) n) step ≡ w →
-        walk_of (frame_of_cells c) (shown_reading b r) (root_at (frame_of_cells c) n) step ≡ w
-    walk_by true t r step w h = h
-    walk_by false t r step w h = same_walk (frame_of_cells c) r (content_of r.state) (root_at (frame_of_cells c) n) (entry_anchor t) step ∙ h
-
-    pub chosen_are : (ws : List ℕ) → HasMetWords c values entry head ws → (chosen : List ℕ) →
-        ((i : ℕ) → i < length p.drawn.items → slice_index chosen i ≡ choice_at p (valuation values) i) → length chosen ≡ length p.drawn.items →
-        (xs : List (ℕ × ℕ)) → steps.AreChoices (is_met_of c.question.now.passive.now.unrolled.now.points.items n c.question.now.passive.now.met.items ws)
-        (slice_index chosen) (length c.question.now.passive.now.met.items)
-        (count_met (is_met_of c.question.now.passive.now.unrolled.now.points.items n c.question.now.passive.now.met.items ws)
-        (length c.question.now.passive.now.met.items)) xs →
-        UnderValues c values (λ x. AreChoices (frame_of_cells c) (is_of_heads c.question.now)
-        (layout_of c.question.now.passive.now.unrolled.now.form) x entry head (root_at (frame_of_cells c) n) xs)
-    chosen_are ws words chosen each count xs h x hx = record {
-      within = λ i d m. (let k = h.within i d m in
-          let a = k.0 in
-          let b = count_few (is_met_of c.question.now.passive.now.unrolled.now.points.items n c.question.now.passive.now.met.items ws)
-          (length c.question.now.passive.now.met.items) in
-          let e = met_long in
-          let f = points_long c.question.now.passive.now.unrolled.now c.question.now.passive.now.unrolled.now.points.items in
-          (omega arith, k.1, k.2));
-      rise = h.rise;
-      follows = λ r isr assumed step i d e. (let q = on_walk c.question.now.passive.now.unrolled.now walkable formed own (heads_of_question c.question.now)
-          (frame_passive_of c.question.now.passive.now) passive c.question.now.passive.now.met.items refl ws (shown_reading (is_of_heads c.question.now) r)
-          (reading_by (is_of_heads c.question.now) r isr.reading)
-          (ap (λ (s : State). s.pc) (state_by (is_of_heads c.question.now) r ∙ isr.state)) (words x hx r isr) n l
-          (assumed_by (is_of_heads c.question.now) refl r assumed) step i d (walk_by (is_of_heads c.question.now) refl r step (WalkIsAt i d) e) in
-          let k : i < length (frame_of_cells c).points
-          = (let a = q.0 in let b = points_long c.question.now.passive.now.unrolled.now c.question.now.passive.now.unrolled.now.points.items in omega arith) in
-          let m : i < length c.question.now.passive.now.met.items = (let a = q.0 in let b = met_long in omega arith) in
-          ap (byte_in xs) (sym q.2) ∙ h.gives i m q.1 ∙ place_is c values p is chosen each count x hx i k);
-    }
+        (omega arith, k.1, k.2));
+    rise = h.rise;
+    follows = λ r isr assumed step i d e. (let q = on_walk c.question.now.passive.now.unrolled.now can.walkable can.roots can.own (heads_of_question c.question.now)
+        (frame_passive_of c.question.now.passive.now) can.passive c.question.now.passive.now.met.items refl ws (shown_reading (is_of_heads c.question.now) r)
+        (reading_by (is_of_heads c.question.now) r isr.reading)
+        (ap (λ (s : State). s.pc) (state_by (is_of_heads c.question.now) r ∙ isr.state)) (words x hx r isr) n l
+        (assumed_by (is_of_heads c.question.now) refl r assumed) step i d (walk_by (is_of_heads c.question.now) refl r step (WalkIsAt i d) e) in
+        let k : i < length (frame_of_cells c).points
+        = (let a = q.0 in let b = points_long c.question.now.passive.now.unrolled.now c.question.now.passive.now.unrolled.now.points.items in omega arith) in
+        let m : i < length c.question.now.passive.now.met.items = (let a = q.0 in let b = met_long c can in omega arith) in
+        ap (byte_in xs) (sym q.2) ∙ h.gives i m q.1 ∙ place x hx i k);
+  }

@@ -1,5 +1,5 @@
 -- Parts of values as they are written, and the reads that go against the file.
-use Rattle.std.proofs.Common.{◌≡◌, inl, inr, refl, ap, sym, ◌∙◌, subst, arith, ℕ, zero, suc, ◌+◌, ◌-◌, ◌*◌, ◌^◌, ◌<◌, ◌≤◌, [], ◌∷◌, ◌++◌, List, Option, Some, None, Bool, true, false, length, map, get_or}
+use Rattle.std.proofs.Common.{◌≡◌, inl, inr, refl, ap, sym, ◌∙◌, subst, arith, ℕ, zero, suc, ◌+◌, ◌-◌, ◌*◌, ◌^◌, ◌<◌, ◌≤◌, [], ◌∷◌, ◌++◌, List, Option, Some, None, Bool, true, false, map, get_or}
 use Rattle.std.specs.Prelude.{◌↔◌, ◌==◌, ◌&&◌, not, All, Contains, filter, nat_lt, slice_index, if◌then◌else◌}
 use Rattle.std.proofs.lemmas.Bool.{cases_eq}
 use Rattle.std.proofs.lemmas.Bool.Decides.{nat_tests}
@@ -37,7 +37,7 @@ use Rattle.mem_cells.specs.declared.cells.Celled.{Celled}
 use Rattle.mem_cells.specs.FrameViews.{frame_cells_of, frame_of_cells}
 use Rattle.question_form.specs.FrameQuestions.{frame_question_of, heads_of_question, is_of_heads}
 use Rattle.frame_start.specs.declared.reads.Reads.{Reads}
-use Rattle.frame_start.specs.Files.{AreBroken, AreWhole, AreWrittenBytes, ForSomeValues, IsWrittenOf, UnderValues, differs, is_free_at}
+use Rattle.frame_start.specs.Files.{AreWhole, AreWrittenBytes, ForSomeValues, IsWrittenOf, UnderValues, differs, is_free_at}
 use Rattle.frame_start.specs.Reads.{AreReadsOf, HaveReads}
 
 -- ---- reads that go against the file
@@ -94,24 +94,17 @@ module _ (u : UnrolledProgram) (c : Cells) (x : TermReading) (of_head : Bool) wh
     pub broken_to : (a : ℕ) → IsBroken u of_head c x a → Contains (first ++ second) a
     broken_to a (b, n, inside, h, at, e, other) = to_by b.part b.address n a h inside at e other
 
-pub broken_are : (c : Celled) (values : List Bool) (r : Reads) →
-    UnderValues c values (λ x. HaveReads (frame_cells_of c) (is_of_heads c.question.now) x r) → (one two at : List ℕ) →
-    one ≡ map (λ (z : ℕ × ℕ). z.0) (filter (differs (frame_of_cells c) 0) r.entry.items) →
-    two ≡ one ++ map (λ (z : ℕ × ℕ). z.0) (filter (differs (frame_of_cells c) 1) r.head.items) →
-    ((i j : ℕ) → i < j → j < length at → slice_index at i < slice_index at j) → ((a : ℕ) → Contains two a ↔ Contains at a) → AreBroken c values at
-broken_are c values r have one two at e f rise same = record {
-  rise = rise;
-  broken = λ x hx a. (
-    (λ h. broken_from (frame_of_cells c) (frame_cells_of c) x (is_of_heads c.question.now) r (have x hx) a
-        (subst (λ (l : List ℕ). Contains l a) all ((same a).1 h))),
-    (λ h. (same a).0 (subst (λ (l : List ℕ). Contains l a) (sym all)
-        (broken_to (frame_of_cells c) (frame_cells_of c) x (is_of_heads c.question.now) r (have x hx) a h))),
-  );
-}
+pub broken_are : (u : UnrolledProgram) (r : Reads) (one two at : List ℕ) →
+    one ≡ map (λ (z : ℕ × ℕ). z.0) (filter (differs u 0) r.entry.items) →
+    two ≡ one ++ map (λ (z : ℕ × ℕ). z.0) (filter (differs u 1) r.head.items) → ((a : ℕ) → Contains two a ↔ Contains at a) →
+    (c : Cells) (of_head : Bool) (x : TermReading) → HaveReads c of_head x r → (a : ℕ) → Contains at a ↔ IsBroken u of_head c x a
+broken_are u r one two at e f same c of_head x have a = (
+  (λ h. broken_from u c x of_head r have a (subst (λ (l : List ℕ). Contains l a) all ((same a).1 h))),
+  (λ h. (same a).0 (subst (λ (l : List ℕ). Contains l a) (sym all) (broken_to u c x of_head r have a h))),
+)
   where
-    all : two ≡ map (λ (z : ℕ × ℕ). z.0) (filter (differs (frame_of_cells c) 0) r.entry.items)
-        ++ map (λ (z : ℕ × ℕ). z.0) (filter (differs (frame_of_cells c) 1) r.head.items)
-    all = f ∙ ap (λ z. z ++ map (λ (z : ℕ × ℕ). z.0) (filter (differs (frame_of_cells c) 1) r.head.items)) e
+    all : two ≡ map (λ (z : ℕ × ℕ). z.0) (filter (differs u 0) r.entry.items) ++ map (λ (z : ℕ × ℕ). z.0) (filter (differs u 1) r.head.items)
+    all = f ∙ ap (λ z. z ++ map (λ (z : ℕ × ℕ). z.0) (filter (differs u 1) r.head.items)) e
 
 -- ---- bytes that are written
 

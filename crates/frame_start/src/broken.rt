@@ -1,15 +1,16 @@
 //! The addresses at which values go against the bytes of the file.
-ghost use Rattle.std.specs.Prelude.{◌≡◌, ◌++◌, ℕ, [], ◌∷◌, filter, map, IfOk, OnOk};
-ghost use Rattle.frame_terms.specs.FrameCells.{AreFormed};
-ghost use Rattle.question_form.specs.FrameQuestions.{heads_of_question};
+ghost use Rattle.std.specs.Prelude.{◌≡◌, ◌↔◌, ◌++◌, ℕ, Bool, [], ◌∷◌, Contains, filter, map, IfOk, OnOk};
+ghost use Rattle.std.specs.List.Sorted.{IsStrictlyIncreasing};
+ghost use Rattle.term_spec.specs.Terms.{TermReading};
+ghost use Rattle.frame_terms.specs.FrameCells.{Cells};
+ghost use Rattle.frame_terms.specs.FrameStarts.{IsBroken};
 ghost use Rattle.question_form.specs.FrameViews.{frame_unrolled_of};
-ghost use Rattle.mem_cells.specs.FrameViews.{frame_cells_of, frame_of_cells};
-ghost use Rattle.frame_start.specs.Files.{AreBroken, differs};
+ghost use Rattle.frame_start.specs.Files.{differs};
+ghost use Rattle.frame_start.specs.Reads.{HaveReads};
 
 use crate::file_bytes::file_byte;
-use crate::reads::reads_of_values;
-use bit_blast::{addresses_in_order, places_of};
-use mem_cells::Celled;
+use crate::reads::Reads;
+use bit_blast::addresses_in_order;
 use question_form::Unrolled;
 use std::alloc::{AllocError, Global};
 
@@ -47,19 +48,17 @@ fn list_all_differing(
     Ok(())
 }
 
-/// The addresses of the bytes of the file that a base read has otherwise under values of the inputs, rising and each once: known ones of the entry's part, and
-/// kept ones of the head's, where the question speaks of head states.
-///
-/// # Errors
-///
-/// Want of memory, which more than 2^28 points, addresses or base reads are.
-pub fn broken_reads(alloc: Global, c: &Celled, values: &[bool]) -> Result<Vec<u32>, AllocError>
-    requires formed { AreFormed (frame_of_cells c.now) (heads_of_question c.now.question.now) (frame_cells_of c.now) }
-    ensures { IfOk result (λ v. AreBroken c.now values.now v.items) }
+/// The addresses of the bytes of the file that a base read has otherwise, rising and each once: known ones of the entry's part, and kept ones of the head's. The
+/// error is want of memory.
+pub fn broken_reads(
+    alloc: Global,
+    unrolled: &Unrolled,
+    reads: &Reads,
+) -> Result<Vec<u32>, AllocError>
+    ensures rise { IfOk result (λ v. IsStrictlyIncreasing v.items) }
+    ensures broken { IfOk result (λ v. (c : Cells) (of_head : Bool) (x : TermReading) → HaveReads c of_head x reads.now → (a : ℕ) →
+        Contains v.items a ↔ IsBroken (frame_unrolled_of unrolled.now) of_head c x a) }
 {
-    let unrolled = c.question.passive.unrolled;
-    let places = places_of(alloc, c)?;
-    let reads = reads_of_values(alloc, c, &places, values)?;
     let mut found = Vec::new(alloc);
     list_all_differing(&reads.entry, &mut found, unrolled, 0)?;
     list_all_differing(&reads.head, &mut found, unrolled, 1)?;

@@ -3,10 +3,9 @@ ghost use Rattle.std.specs.Prelude.{◌≡◌, ℕ, ◌<◌, ◌≤◌, ◌+◌,
 ghost use Rattle.word_spec.specs.RowFiles.{from_to};
 ghost use Rattle.clause_spec.specs.Clauses.{valuation};
 ghost use Rattle.term_spec.specs.ClauseForm.{bits_from};
-ghost use Rattle.term_spec.specs.Terms.{InRange, TermReading};
 ghost use Rattle.bit_blast.specs.Places as laid;
-ghost use Rattle.bit_blast.specs.Places.{AreInOrder, IsReadingAt};
-ghost use Rattle.frame_start.specs.Inputs.{HasPartAt, byte_by, read_of};
+ghost use Rattle.bit_blast.specs.Places.{AreInOrder};
+ghost use Rattle.frame_start.specs.Inputs.{HasInputs, byte_by, read_of};
 
 use bit_blast::{InputPlaces, choices_by_place, flags_by_number, number_at};
 use byte_mem::Bytes32;
@@ -103,7 +102,7 @@ fn bytes_by_address(
     Ok(bytes)
 }
 
-/// The registers, the flags and the bytes of base reads of a part, with choices and a memory.
+/// The registers, the flags and the bytes of base reads of a part, with choices. The memory is empty.
 pub fn part_inputs(
     alloc: Global,
     places: &InputPlaces,
@@ -111,14 +110,13 @@ pub fn part_inputs(
     part: u32,
     addresses: usize,
     choices: Vec<u8>,
-    memory: Bytes32,
 ) -> Result<Reading, AllocError>
     requires order { AreInOrder places.now }
     requires few { addresses < 2 ^ 32 }
-    ensures inputs { IfOk result (λ r. (x : TermReading) → InRange x → IsReadingAt places.now (valuation values.now) x → HasPartAt places.now x part addresses r) }
+    ensures inputs { IfOk result (HasInputs places.now values.now part addresses) }
     ensures bytes { IfOk result (λ r. length r.base.items ≡ addresses) }
     ensures choices { IfOk result (λ r. r.choices.items ≡ choices.items) }
-    ensures memory { IfOk result (λ r. (r.memory ≡ memory) × (r.fill ≡ 0)) }
+    ensures fill { IfOk result (λ r. r.fill ≡ 0) }
 {
     let first = first_of(places, part);
     let registers = registers_by_number(
@@ -133,7 +131,7 @@ pub fn part_inputs(
     Ok(Reading {
         registers,
         flags,
-        memory,
+        memory: Bytes32::new(alloc),
         fill: 0,
         choices,
         base,

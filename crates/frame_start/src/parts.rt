@@ -2,19 +2,19 @@
 ghost use Rattle.std.specs.Prelude.{◌≡◌, ◌++◌, ℕ, [], ◌∷◌, ◌≤◌, Contains, filter, IfOk, OnOk};
 ghost use Rattle.clause_spec.specs.Clauses.{valuation};
 ghost use Rattle.frame_terms.specs.FrameCells.{AreFormed};
-ghost use Rattle.frame_terms.specs.FrameStarts.{AreParts};
 ghost use Rattle.start_value.specs.Starts.{written_of};
-ghost use Rattle.question_form.specs.FrameQuestions.{heads_of_question, is_of_heads};
+ghost use Rattle.question_form.specs.FrameQuestions.{heads_of_question};
 ghost use Rattle.question_form.specs.FrameViews.{frame_unrolled_of};
 ghost use Rattle.mem_cells.specs.FrameViews.{frame_cells_of, frame_of_cells};
 ghost use Rattle.bit_blast.specs.Places.{AreInOrder};
-ghost use Rattle.frame_start.specs.Files.{AreWhole, AreWrittenBytes, ForSomeValues, IsWrittenOf, UnderValues, is_free_at};
+ghost use Rattle.frame_start.specs.Evaluations.{IsEvaluated};
+ghost use Rattle.frame_start.specs.Files.{AreWhole, AreWrittenBytes, ForSomeValues, IsWrittenOf, is_free_at};
+ghost use Rattle.frame_start.specs.Segments.{ArePartsOf};
 
+use crate::evaluated::Evaluated;
 use crate::file_bytes::file_byte;
 use crate::inputs::{first_flag_of, first_of, registers_from};
-use crate::reads::reads_of_values;
-use bit_blast::{InputPlaces, bytes_in_order, not_zero, number_at, places_of};
-use mem_cells::Celled;
+use bit_blast::{InputPlaces, bytes_in_order, not_zero, number_at};
 use question_form::Unrolled;
 use start_value::Start;
 use std::alloc::{AllocError, Global};
@@ -99,25 +99,18 @@ fn written_part(
     })
 }
 
-/// The entry and the head as values of the inputs give them: their registers and flags, and the bytes that are not 0 where they have none of the file, by rising
-/// address; their choices are left empty. Base reads of one address of a part have to have one byte, as they have where the clauses are satisfied, and no read may
-/// have another byte than its part has of the file.
-///
-/// # Errors
-///
-/// Want of memory, which more than 2^28 points, addresses or base reads are.
-pub fn parts_of(alloc: Global, c: &Celled, values: &[bool]) -> Result<Parts, AllocError>
-    requires formed { AreFormed (frame_of_cells c.now) (heads_of_question c.now.question.now) (frame_cells_of c.now) }
-    requires whole { ForSomeValues c.now values.now (AreWhole c.now) }
-    ensures { IfOk result (λ p. UnderValues c.now values.now
-        (λ x. AreParts (frame_of_cells c.now) (is_of_heads c.now.question.now) (frame_cells_of c.now) x (written_of p.entry) (written_of p.head))) }
+/// The entry and the head as values give them: their registers and flags, and the bytes that are not 0 where they have none of the file, by rising address; their
+/// choices are left empty. Base reads of one address of a part have one byte, and none has another byte than its part has of the file. The error is want of memory.
+pub fn parts_of(alloc: Global, e: &Evaluated) -> Result<Parts, AllocError>
+    requires evaluated { IsEvaluated e.now }
+    requires formed { AreFormed (frame_of_cells e.now.celled.now) (heads_of_question e.now.celled.now.question.now) (frame_cells_of e.now.celled.now) }
+    requires whole { ForSomeValues e.now.celled.now e.now.values.now (AreWhole e.now.celled.now) }
+    ensures { IfOk result (ArePartsOf e.now.celled.now e.now.values.now) }
 {
-    let unrolled = c.question.passive.unrolled;
-    let places = places_of(alloc, c)?;
-    let reads = reads_of_values(alloc, c, &places, values)?;
-    let bytes = written_bytes(alloc, &reads.entry, unrolled, 0)?;
-    let entry = written_part(alloc, &places, values, 0, bytes)?;
-    let bytes = written_bytes(alloc, &reads.head, unrolled, 1)?;
-    let head = written_part(alloc, &places, values, 1, bytes)?;
+    let unrolled = e.celled.question.passive.unrolled;
+    let bytes = written_bytes(alloc, &e.reads.entry, unrolled, 0)?;
+    let entry = written_part(alloc, &e.places, e.values, 0, bytes)?;
+    let bytes = written_bytes(alloc, &e.reads.head, unrolled, 1)?;
+    let head = written_part(alloc, &e.places, e.values, 1, bytes)?;
     Ok(Parts { entry, head })
 }

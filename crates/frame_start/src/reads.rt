@@ -1,21 +1,16 @@
 //! The base reads of each part, as values give them.
 ghost use Rattle.std.specs.Prelude.{◌≡◌, ℕ, ◌<◌, ◌++◌, [], ◌∷◌, Contains, if◌then◌else◌, ◌^◌, filter, length, map, slice_index, slice_index_or, IfOk, OnOk};
-ghost use Rattle.clause_spec.specs.Clauses.{valuation};
-ghost use Rattle.term_spec.specs.Terms.{TermReading};
 ghost use Rattle.frame_terms.specs.FrameCells.{AreFormed};
-ghost use Rattle.frame_terms.specs.FrameStarts.{HasValues};
 ghost use Rattle.term_dag.specs.declared.nodes.Term.{Term};
 ghost use Rattle.question_form.specs.FrameQuestions as questions;
 ghost use Rattle.question_form.specs.FrameQuestions.{heads_of_question};
 ghost use Rattle.mem_cells.specs.declared.cells.BaseRead.{BaseRead};
 ghost use Rattle.mem_cells.specs.FrameViews.{frame_cells_of, frame_of_cells};
-ghost use Rattle.bit_blast.specs.Laid.{AreFramePlaces};
 ghost use Rattle.bit_blast.specs.ReadBytes.{address_word};
-ghost use Rattle.frame_start.specs.Reads.{HaveReads, is_of, pair_at};
+ghost use Rattle.term_dag.specs.Readings.{AreWords};
+ghost use Rattle.frame_start.specs.Inputs.{both_reading};
+ghost use Rattle.frame_start.specs.Reads.{AreReadUnder, is_of, pair_at};
 
-use crate::inputs::part_inputs;
-use bit_blast::{InputPlaces, choices_by_place};
-use byte_mem::Bytes32;
 use mem_cells::{BaseRead, Celled};
 use question_form::Question;
 use std::alloc::{AllocError, Global};
@@ -105,50 +100,38 @@ fn reads_of_head(
     Ok(Vec::new(alloc))
 }
 
-/// The base reads that values give. The error is want of memory, which 2^32 addresses are.
-pub fn reads_of_values(
+/// The words of the terms of cells under data of both parts. The error is want of memory.
+fn cell_words(
     alloc: Global,
     c: &Celled,
-    places: &InputPlaces,
-    values: &[bool],
-) -> Result<Reads, AllocError>
-    requires formed { AreFormed (frame_of_cells c.now) (heads_of_question c.now.question.now) (frame_cells_of c.now) }
-    requires placed { AreFramePlaces (frame_of_cells c.now) (heads_of_question c.now.question.now) (frame_cells_of c.now) places.now }
-    ensures { IfOk result (λ r. (x : TermReading) →
-        HasValues (frame_of_cells c.now) (heads_of_question c.now.question.now) (frame_cells_of c.now) (valuation values.now) x →
-        HaveReads (frame_cells_of c.now) (questions.is_of_heads c.now.question.now) x r) }
+    entry: &Reading,
+    head: &Reading,
+) -> Result<Vec<u64>, AllocError>
+    ensures { IfOk result (λ ws. AreWords (both_reading entry.now (head.now ∷ [])) c.now.dag ws.items) }
 {
-    let count = c.addresses.len();
-    if count > u32::MAX as usize {
-        return Err(AllocError);
-    }
-    let choices = choices_by_place(alloc, places, values)?;
-    let entry = part_inputs(
-        alloc,
-        places,
-        values,
-        0,
-        count,
-        choices,
-        Bytes32::new(alloc),
-    )?;
-    let head = part_inputs(
-        alloc,
-        places,
-        values,
-        1,
-        count,
-        Vec::new(alloc),
-        Bytes32::new(alloc),
-    )?;
-    let others = [head];
     let parts = Parts {
-        first: &entry,
-        others: &others,
+        first: entry,
+        others: std::slice::from_ref(head),
     };
     let words = c.dag.values_of_parts(alloc, &parts)?;
+    Ok(words)
+}
+
+/// The base reads of the parts, with the bytes that data have for them. The error is want of memory.
+pub fn reads_of_parts(
+    alloc: Global,
+    c: &Celled,
+    entry: &Reading,
+    head: &Reading,
+) -> Result<Reads, AllocError>
+    requires formed { AreFormed (frame_of_cells c.now) (heads_of_question c.now.question.now) (frame_cells_of c.now) }
+    requires entry { length entry.now.base.items ≡ length c.now.addresses.items }
+    requires head { length head.now.base.items ≡ length c.now.addresses.items }
+    ensures { IfOk result (AreReadUnder c.now entry.now head.now) }
+{
+    let words = cell_words(alloc, c, entry, head)?;
     let of_entry = reads_of_part(alloc, &c.reads, &c.addresses, &words, &entry.base, 0)?;
-    let of_head = reads_of_head(alloc, c, &words, &others[0].base)?;
+    let of_head = reads_of_head(alloc, c, &words, &head.base)?;
     Ok(Reads {
         entry: of_entry,
         head: of_head,

@@ -27,7 +27,7 @@ returns-in-Sat c =
     c.in_ok-judged-in-Sat.judged c.in_ok-judged-in-Sat.ensures)
 
 pub returns-in-Unsat : goal.returns-in-Unsat
-returns-in-Unsat c f contracts k layout g =
+returns-in-Unsat c =
     of_question c.args.question.now c.args.added.now c.args.conflicts c.in_ok-celled.celled
     (Answered (answer.Refuted (record { clauses = c.in_ok-clauses.clauses; log = c.in-Unsat.log })))
     c.in_ok-celled.ensures
@@ -35,10 +35,9 @@ returns-in-Unsat c f contracts k layout g =
     (layers c.args.question.now c.args.added.now c.in_ok-celled.celled c.in_ok-celled.ensures c.requires.askable c.requires.added c.requires.tells)
     c.in_ok-clauses.ensures
     c.in-Unsat.log (said c.in_ok-clauses.clauses c.args.conflicts c.in_ok-values.field-0 (search.Unsat c.in-Unsat.log) c.in_ok-values.ensures c.in-Unsat.is))
-    f contracts k layout g
 
 pub returns : goal.returns
-returns c f contracts k layout g =
+returns c =
     of_question c.args.question.now c.args.added.now c.args.conflicts c.in_ok-celled.celled
     (Answered (answer.Spent (record { clauses = c.in_ok-clauses.clauses; log = c.in-Spent.log })))
     c.in_ok-celled.ensures
@@ -46,4 +45,3 @@ returns c f contracts k layout g =
     (layers c.args.question.now c.args.added.now c.in_ok-celled.celled c.in_ok-celled.ensures c.requires.askable c.requires.added c.requires.tells)
     c.in_ok-clauses.ensures
     c.in-Spent.log (said c.in_ok-clauses.clauses c.args.conflicts c.in_ok-values.field-0 (search.Spent c.in-Spent.log) c.in_ok-values.ensures c.in-Spent.is).0)
-    f contracts k layout g

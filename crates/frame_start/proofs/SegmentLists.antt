@@ -5,8 +5,7 @@ use Rattle.std.proofs.lemmas.Bool.{cases_lt}
 use Rattle.std.proofs.lemmas.List.{length-append}
 use Rattle.mem_cells.specs.declared.cells.Celled.{Celled}
 use Rattle.frame_start.specs.declared.parts.Parts.{Parts}
-use Rattle.frame_rounds.specs.FrameGrounds.{choices_at}
-use Rattle.frame_rounds.specs.FrameRounds.{AreChoicesOf, AreChoicesTo}
+use Rattle.frame_start.specs.Segments.{AreChoicesOf, AreChoicesTo, choices_at}
 
 same_before : (lists : List (Vec (ℕ × ℕ))) (v : Vec (ℕ × ℕ)) (i : ℕ) → i < length lists → choices_at (lists ++ v ∷ []) i ≡ choices_at lists i
 same_before [] v i l = absurd (omega arith)
