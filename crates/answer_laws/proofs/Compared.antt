@@ -16,7 +16,7 @@ use Rattle.notes_spec.specs.Programs.{names_of}
 use Rattle.bilv_spec.specs.Points.{Point, IsPoint, HasMore}
 use Rattle.bilv_spec.specs.Run.{Program}
 use Rattle.notes_spec.specs.Verified.{IsFound}
-use Rattle.call_spec.specs.Calls.{Answer, Budget, IsBudget, Evidence, NoEvidence, Refutations, EntryRefuted, RunOf, SpentOn, Count, Two, Both, SpentOnPair, Options, Surroundings, plain_answer}
+use Rattle.call_spec.specs.Calls.{Answer, Budget, IsBudget, Evidence, NoEvidence, Refutations, EntryRefuted, RunOf, SpentOn, Count, Two, Both, SpentOnPair, Inductive, FromHead, Frames, WithCalls, SpentOnFrame, Options, Surroundings, plain_answer}
 use Rattle.call_spec.specs.Outside.{Appends}
 use Rattle.clause_spec.specs.Checks.{text_limit}
 use Rattle.command_spec.specs.Commands.{PairNames, Equal, Differ}
@@ -164,6 +164,11 @@ module _ (o : Options) (content : List ℕ → List ℕ) (names : PairNames) (b 
   two_of x r (Count n) shows right text = absurd shows
   two_of x r (Both u v w z proof) shows right text = absurd shows
   two_of x r (SpentOnPair kind proof) shows right text = absurd shows
+  two_of x r (Inductive w fail step turn) shows right text = absurd shows
+  two_of x r (FromHead w head) shows right text = absurd shows
+  two_of x r (Frames list) shows right text = absurd shows
+  two_of x r (WithCalls rank w calls) shows right text = absurd shows
+  two_of x r (SpentOnFrame rank question proof) shows right text = absurd shows
 
   two_answered : ShowsTwo a.evidence →
       AfterPairFiles o content names

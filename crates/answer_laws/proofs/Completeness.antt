@@ -13,14 +13,16 @@ use Rattle.bilv_spec.specs.Answers.{Report, HoldsReport, VacuousReport, FailsRep
 use Rattle.frame_spec.specs.FrameVerdict.{Whole}
 use Rattle.notes_spec.specs.Verified.{IsAccepted, IsFound, AfterImage, elf_refused, elf_accepted}
 use Rattle.command_spec.specs.Commands.{Verify}
-use Rattle.answer_spec.specs.FrameAnswers.{dialect_for, IsFrameFound, AfterFrames, frames_refused, frames_found, IsVerifiedWhole}
+use Rattle.answer_spec.specs.FrameAnswers.{dialect_for, IsFrameFound, AfterFrames, frames_refused, frames_found, IsFrameReported, IsVerifiedWhole}
 use Rattle.answer_spec.specs.Outcomes.{IsOutcome, whole, cut, no_memory}
-use Rattle.answer_spec.proofs.Wholes.{by_invariants, found_program, programs_are_whole}
+use Rattle.answer_spec.proofs.Wholes.{by_invariants, found_program, one_whole, programs_are_whole}
 use Rattle.bilv_spec.proofs.AllPoints.{one_price}
 use Rattle.bilv_spec.proofs.One.{one_verdict}
 use Rattle.bilv_spec.proofs.Over.{one_end}
-use Rattle.answer_laws.specs.Completeness.{Finding, TooManyPoints, TooLarge, HasVerdict, ComesTo, Says, IsSpentEvidence, ShowsRun, Answers, elf_is_refused, notes_are_refused, is_reported, frames_are_reported, HaveNoInvariants, AreTold, AreSameButRun}
-use Rattle.answer_laws.proofs.OneProgram.{one_program, one_elf_refusal, refused_or_accepted, one_refusal_in, not_refused}
+use Rattle.answer_laws.specs.Completeness.{Finding, TooManyPoints, TooLarge, HasVerdict, ComesTo, Says, IsSpentEvidence, ShowsRun, Answers, elf_is_refused, notes_are_refused, is_reported, frames_are_reported, AreTold, HasBytes, AreSameButRun}
+use Rattle.answer_laws.proofs.FoundFrames.{rows_of, reads_of}
+use Rattle.answer_laws.proofs.SameFrames.{frames_alike, same_answer}
+use Rattle.answer_laws.proofs.OneProgram.{one_program, one_elf_refusal, refused_or_accepted, one_refusal_in, not_refused, not_refused_whole}
 
 -- two prices of a program are one, so that it can't be both within the size and above it
 one_above : (p : Program) (k n m size : ℕ) → IsPrice p k n → IsPrice p k m → n ≤ size → size < m → ⊥
@@ -67,7 +69,7 @@ by_notes o file text b a unspent accepted (frames_refused written h is) = notes_
 by_notes o file text b a unspent accepted (frames_found w found next) =
     by_invariants w.invariants _ _ (Answers o file text b a)
     (λ none right. reported o file text b a w.program unspent (found_program o file text w none found) right)
-    (λ some right. frames_are_reported w found some right) next
+    (λ some right. frames_are_reported w found some right unspent) next
 
 pub read_calm : {Next : List ℕ → Answer → Type 0} {a : Answer} (s : Surroundings) (name file : List ℕ) → s.held name ≡ Bytes file →
     (¬ Rose (s.shelf_before name) (s.shelf_after name)) → AfterRead s name Next a → Next file a
@@ -95,15 +97,6 @@ verify_is_complete s o elf notes file text b status shown told calm memory unspe
 )
 verify_is_complete s o elf notes file text b status shown told calm memory unspent (cut a n due l appends rose e d) = absurd (calm e rose)
 verify_is_complete s o elf notes file text b status shown told calm memory unspent (no_memory appends e d) = absurd (memory e)
-
--- equal answers
-same_answer : (a c : Answer) → a ≡ c → AreSameButRun a c
-same_answer a c e = record {
-  status = ap (λ x. x.status) e;
-  shows = (λ h. subst (λ (x : Answer). ShowsRun x.evidence) e h, λ h. subst (λ (x : Answer). ShowsRun x.evidence) (sym e) h);
-  text = λ none. ap (λ x. x.text) e;
-  whole = λ d. e;
-}
 
 -- two reports of one finding
 module _ (p : Program) (layout : Layout) (b : Budget) where
@@ -231,26 +224,40 @@ two_reports o file b p q f g r t e d same x y s u right other =
 no_frames : (o : Options) (file text : List ℕ) (w : Whole) (p : Program) → IsFrameFound o file text w → w.invariants ≢ [] → IsFound o file text p → ⊥
 no_frames o file text w p found some is = some ((programs_are_whole o file text p is).1 w found).1
 
-pub one_answer : (o : Options) (file text : List ℕ) (b : Budget) (a c : Answer) → HaveNoInvariants o file text → Answers o file text b a →
+pub one_answer : (o : Options) (file text : List ℕ) (b : Budget) (a c : Answer) → HasBytes o file text → Answers o file text b a →
     Answers o file text b c → AreSameButRun a c
-one_answer o file text b a c none (elf_is_refused v x i) (elf_is_refused w y j) =
+one_answer o file text b a c bytes (elf_is_refused v x i) (elf_is_refused w y j) =
     same_answer a c (i ∙ ap (plain_answer 4) (one_elf_refusal file v w x y) ∙ sym j)
-one_answer o file text b a c none (elf_is_refused v x i) (notes_are_refused w accepted y j) = absurd (refused_or_accepted file v x accepted)
-one_answer o file text b a c none (elf_is_refused v x i) (is_reported p f r e found y s right j) = absurd (refused_or_accepted file v x found.0)
-one_answer o file text b a c none (notes_are_refused v accepted x i) (elf_is_refused w y j) = absurd (refused_or_accepted file w y accepted)
-one_answer o file text b a c none (notes_are_refused v accepted x i) (notes_are_refused w too y j) =
+one_answer o file text b a c bytes (elf_is_refused v x i) (notes_are_refused w accepted y j) = absurd (refused_or_accepted file v x accepted)
+one_answer o file text b a c bytes (elf_is_refused v x i) (is_reported p f r e found y s right j) = absurd (refused_or_accepted file v x found.0)
+one_answer o file text b a c bytes (notes_are_refused v accepted x i) (elf_is_refused w y j) = absurd (refused_or_accepted file w y accepted)
+one_answer o file text b a c bytes (notes_are_refused v accepted x i) (notes_are_refused w too y j) =
     same_answer a c (i ∙ ap (plain_answer 5) (one_refusal_in (dialect_for text) o file text v w x y) ∙ sym j)
-one_answer o file text b a c none (notes_are_refused v accepted x i) (is_reported p f r e found y s right j) =
+one_answer o file text b a c bytes (notes_are_refused v accepted x i) (is_reported p f r e found y s right j) =
     absurd (not_refused o file text v p x found)
-one_answer o file text b a c none (is_reported p f r e found x s right i) (elf_is_refused w y j) = absurd (refused_or_accepted file w y found.0)
-one_answer o file text b a c none (is_reported p f r e found x s right i) (notes_are_refused w accepted y j) =
+one_answer o file text b a c bytes (is_reported p f r e found x s right i) (elf_is_refused w y j) = absurd (refused_or_accepted file w y found.0)
+one_answer o file text b a c bytes (is_reported p f r e found x s right i) (notes_are_refused w accepted y j) =
     absurd (not_refused o file text w p y found)
-one_answer o file text b a c none (is_reported p f r e found x s right i) (is_reported q g t d too y u other j) =
+one_answer o file text b a c bytes (is_reported p f r e found x s right i) (is_reported q g t d too y u other j) =
     subst (λ (z : Answer). AreSameButRun z c) (sym i)
     (subst (λ (z : Answer). AreSameButRun (report_answer (layout_of o file) b r e) z) (sym j)
     (two_reports o file b p q f g r t e d (one_program o file text p q found too) x y s u right other))
-one_answer o file text b a c none (frames_are_reported w found some right) other = absurd (some (none w found))
-one_answer o file text b a c none other (frames_are_reported w found some right) = absurd (some (none w found))
+one_answer o file text b a c bytes (frames_are_reported w found some right unspent) (elf_is_refused v x i) =
+    absurd (refused_or_accepted file v x found.0)
+one_answer o file text b a c bytes (frames_are_reported w found some right unspent) (notes_are_refused v accepted x i) =
+    absurd (not_refused_whole o file text v w x found)
+one_answer o file text b a c bytes (frames_are_reported w found some right unspent) (is_reported p f r e too x s other i) =
+    absurd (no_frames o file text w p found some too)
+one_answer o file text b a c bytes (frames_are_reported w found some right unspent) (frames_are_reported v too any other calm) =
+    let same : v ≡ w = (one_whole o file text w found).1 v too in
+    frames_alike w (layout_of o file) b (rows_of o file text w (bytes w found some) found) (reads_of o file text w (bytes w found some) found) (one_whole o file text w found).0 a c unspent
+    calm right (subst (λ (z : Whole). IsFrameReported z (layout_of o file) b c) same other)
+one_answer o file text b a c bytes (elf_is_refused v x i) (frames_are_reported w found some right unspent) =
+    absurd (refused_or_accepted file v x found.0)
+one_answer o file text b a c bytes (notes_are_refused v accepted x i) (frames_are_reported w found some right unspent) =
+    absurd (not_refused_whole o file text v w x found)
+one_answer o file text b a c bytes (is_reported p f r e too x s other i) (frames_are_reported w found some right unspent) =
+    absurd (no_frames o file text w p found some too)
 
 -- what is reported of the files' program is what it comes to
 reported_as : (s : Surroundings) (o : Options) (file text : List ℕ) (b : Budget) (status : ℕ) (shown : Evidence) (p : Program) → IsFound o file text p →
@@ -260,7 +267,7 @@ reported_as : (s : Surroundings) (o : Options) (file text : List ℕ) (b : Budge
     × Appends s.text_before (report_text (layout_of o file) b r shown) s.text_after
 reported_as s o file text b status shown p found f comes a (elf_is_refused w x i) e d appends = absurd (refused_or_accepted file w x found.0)
 reported_as s o file text b status shown p found f comes a (notes_are_refused w accepted x i) e d appends = absurd (not_refused o file text w p x found)
-reported_as s o file text b status shown p found f comes a (frames_are_reported w too some right) e d appends = absurd (no_frames o file text w p too some found)
+reported_as s o file text b status shown p found f comes a (frames_are_reported w too some right unspent) e d appends = absurd (no_frames o file text w p too some found)
 reported_as s o file text b status shown p found f comes a (is_reported q g r t too other says right i) e d appends =
     let same : q ≡ p = one_program o file text q p too found in
     let finding : g ≡ f = one_finding p b g f (subst (λ (z : Program). ComesTo z b g) same other) comes in

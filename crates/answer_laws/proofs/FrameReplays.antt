@@ -383,9 +383,9 @@ module _ (p : Program) (invariants : List ℕ) (lawful : HasLawfulRows p) (memor
       (turning_replays p invariants layout back b.unroll places returns tells s right.3 right.4 at j right.5
       (turns_named p invariants b small right.0 lawful memory places lines _ right.4 at j right.5.0 right.5.1))
   by_report (NotInductiveReport event at j) (ShownBy s) n right name =
-      let named = fails_named p invariants b small right.0 lawful memory places lines _ right.5 event at j right.6.0 right.6.1 in
+      let named = fails_named p invariants b small right.0 lawful memory places lines _ right.6 event at j right.7.0 right.7.1 in
       subst (IsReplayed (NotInductiveReport event at j) (ShownBy s)) (let same : NotInductiveBy event at j ≡ n = cc in same)
-      (stepping_replays p invariants layout back b.unroll places returns tells s right.4 right.5 event at j right.3 right.6 named)
+      (stepping_replays p invariants layout back b.unroll places returns tells s right.5 right.6 event at j right.3 right.7 named)
   by_report HoldsReport e n right name = absurd (no_name n name)
   by_report PartialReport e n right name = absurd (no_name n name)
   by_report VacuousReport e n right name = absurd (no_name n name)

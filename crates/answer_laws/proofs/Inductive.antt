@@ -35,9 +35,6 @@ module _ (o : Options) (file text : List ℕ) (b : Budget) (bytes : AreBytes fil
   status_by : (n : ℕ) (written : List ℕ) → a ≡ plain_answer n written → a.status ≡ n
   status_by n written is = ap (λ (x : Answer). x.status) is
 
-  text_by : (n : ℕ) (written : List ℕ) → a ≡ plain_answer n written → a.text ≡ written
-  text_by n written is = ap (λ (x : Answer). x.text) is
-
   -- the report of a program
   of_program : (p : Program) (layout : Layout) → plain.IsReported p layout b a → ⊥
   of_program p layout (plain.HoldsReport, e, right, is) = other_text (line (codes "holds")) 6 refl (omega arith) (ap (λ (x : Answer). x.text) is)
@@ -63,15 +60,15 @@ module _ (o : Options) (file text : List ℕ) (b : Budget) (bytes : AreBytes fil
 
   of_frames : (w : Whole) → IsFrameFound o file text w → IsFrameReported w (layout_of o file) b a → NeverFails o file text
   of_frames w found (PartialReport, e, right, is) = of_partial w found e right
-  of_frames w found (HoldsReport, e, right, is) = absurd (other_text (line (codes "holds")) 6 refl (omega arith) (text_by _ _ is))
-  of_frames w found (VacuousReport, e, right, is) = absurd (other_text (line (codes "vacuous")) 8 refl (omega arith) (text_by _ _ is))
-  of_frames w found (NamedReport (ByEvent event at step), e, right, is) = absurd (other_status 1 (omega arith) (status_by _ _ is))
-  of_frames w found (NamedReport (ByTurn at step), e, right, is) = absurd (other_status 3 (omega arith) (status_by _ _ is))
-  of_frames w found (NotInductiveReport event at step, e, right, is) = absurd (other_status 1 (omega arith) (status_by _ _ is))
-  of_frames w found (UnprovedReport rank n, e, right, is) = absurd (other_status 3 (omega arith) (status_by _ _ is))
-  of_frames w found (PointsReport, e, right, is) = absurd (other_status 3 (omega arith) (status_by _ _ is))
-  of_frames w found (SizeReport, e, right, is) = absurd (other_status 3 (omega arith) (status_by _ _ is))
-  of_frames w found (ConflictsReport, e, right, is) = absurd (other_status 3 (omega arith) (status_by _ _ is))
+  of_frames w found (HoldsReport, e, right, is) = absurd (other_text (line (codes "holds")) 6 refl (omega arith) (ap (λ (x : Answer). x.text) is))
+  of_frames w found (VacuousReport, e, right, is) = absurd (other_text (line (codes "vacuous")) 8 refl (omega arith) (ap (λ (x : Answer). x.text) is))
+  of_frames w found (NamedReport (ByEvent event at step), e, right, is) = absurd (other_status 1 (omega arith) (ap (λ (x : Answer). x.status) is))
+  of_frames w found (NamedReport (ByTurn at step), e, right, is) = absurd (other_status 3 (omega arith) (ap (λ (x : Answer). x.status) is))
+  of_frames w found (NotInductiveReport event at step, e, right, is) = absurd (other_status 1 (omega arith) (ap (λ (x : Answer). x.status) is))
+  of_frames w found (UnprovedReport rank n, e, right, is) = absurd (other_status 3 (omega arith) (ap (λ (x : Answer). x.status) is))
+  of_frames w found (PointsReport, e, right, is) = absurd (other_status 3 (omega arith) (ap (λ (x : Answer). x.status) is))
+  of_frames w found (SizeReport, e, right, is) = absurd (other_status 3 (omega arith) (ap (λ (x : Answer). x.status) is))
+  of_frames w found (ConflictsReport, e, right, is) = absurd (other_status 3 (omega arith) (ap (λ (x : Answer). x.status) is))
 
   of_notes : AfterFrames o file text (IsVerifiedWhole (layout_of o file) b) a → NeverFails o file text
   of_notes (frames_refused written refused is) = absurd (other_status 5 (omega arith) (status_by 5 written is))

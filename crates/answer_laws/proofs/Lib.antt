@@ -20,3 +20,5 @@ pub mod FoundFrames
 pub mod Inductive
 pub mod FramedEnds
 pub mod FrameReplays
+pub mod SameFrames
+pub mod NoHeads

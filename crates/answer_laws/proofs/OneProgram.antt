@@ -14,7 +14,8 @@ use Rattle.notes_spec.proofs.NotesFirst as notes
 use Rattle.notes_spec.specs.Scopes.{Vocabulary, Dialect, Plain, Paired, in_dialect}
 use Rattle.notes_spec.proofs.NotesSaid.{one_reading}
 use Rattle.notes_spec.proofs.Dialects.{paired_is_plain}
-use Rattle.answer_spec.specs.FrameAnswers.{dialect_for}
+use Rattle.frame_spec.specs.FrameVerdict.{Whole}
+use Rattle.answer_spec.specs.FrameAnswers.{dialect_for, IsFrameFound}
 use Rattle.answer_spec.proofs.Wholes.{programs_are_whole}
 
 same_notes : (o : Options) (file text : List ℕ) (m n : Notes) → IsNotesText (vocabulary_of o file) text m → IsNotesText (vocabulary_of o file) text n → m ≡ n
@@ -124,6 +125,12 @@ refused_or_found o file text w p refused is = refused_by Plain o file text w is.
 pub not_refused : (o : Options) (file text written : List ℕ) (p : Program) → AreNotesRefusedIn (dialect_for text) o file text written → IsFound o file text p → ⊥
 not_refused o file text written p refused found =
     refused_or_found o file text written p (subst (λ d. AreNotesRefusedIn d o file text written) (programs_are_whole o file text p found).0 refused) found
+
+-- so of what may have invariants
+pub not_refused_whole : (o : Options) (file text written : List ℕ) (w : Whole) → AreNotesRefusedIn (dialect_for text) o file text written →
+    IsFrameFound o file text w → ⊥
+not_refused_whole o file text written w refused found =
+    let is = found.2 in refused_by (dialect_for text) o file text written is.0.notes is.1 refused found.1 is.2.is_notes is.3
 
 -- so where two functions are compared
 pub paired_refused_or_found : (o : Options) (file text w : List ℕ) (p : Program) → AreNotesRefusedIn Paired o file text w → IsFound o file text p → ⊥

@@ -1,23 +1,21 @@
 -- What is answered over files that are told.
 use Rattle.std.proofs.Common.{◌≡◌, ◌≢◌, ℕ, List, Some, subst}
 use Rattle.std.specs.Prelude.{codes}
-use Rattle.call_spec.specs.Calls.{Answer, Evidence, NoEvidence, Options, Surroundings, AfterRead, read_failed, was_read}
-use Rattle.bilv_spec.specs.Certified.{IsCertified}
+use Rattle.call_spec.specs.Calls.{Answer, Evidence, NoEvidence, Options, Surroundings, AfterRead, read_failed, was_read, program_question}
 use Rattle.bilv_spec.specs.Files.{layout_of}
 use Rattle.command_spec.specs.Commands.{Command, Verify, Lift, Graph, Script, Replay, Certify, Check, SelfRun, Upgrade, Model, Equal, Differ, PairNames}
 use Rattle.frame_spec.specs.FrameVerdict.{Whole}
-use Rattle.answer_spec.specs.FrameAnswers.{AfterFrames, frames_refused, frames_found, IsVerifiedWhole, IsReplayedWhole}
+use Rattle.answer_spec.specs.FrameAnswers.{AfterFrames, frames_refused, frames_found, IsVerifiedWhole, IsReplayedWhole, IsCertifiedWhole, IsScriptWhole}
 use Rattle.answer_spec.specs.Outcomes.{AfterBoth, AfterWhole, AfterPair, IsLifted, IsGraphed, IsRightAnswer, upgrade_answer, IsOutcome, whole, cut, no_memory}
 use Rattle.call_spec.specs.Outside.{Agrees, Rose}
 use Rattle.call_spec.specs.Calls.{Budget}
-use Rattle.model_spec.specs.Models.{AfterBudgets, points, size, within, IsModelAnswer}
+use Rattle.model_spec.specs.Models.{AfterBudgets, points, size, within, IsAskedModelAnswer}
 use Rattle.pair_spec.specs.Differs.{differ_answer}
 use Rattle.pair_spec.specs.Equals as pairs
 use Rattle.pair_spec.specs.Equals.{side_of, IsPairReported, AfterElfOf, AfterNotesOf, AfterLinks}
 use Rattle.pair_spec.specs.Links.{Link}
 use Rattle.clause_spec.specs.Checks.{IsChecked}
 use Rattle.bilv_spec.specs.Run.{Program}
-use Rattle.bilv_spec.specs.Scripts.{IsScriptAnswer}
 use Rattle.notes_spec.specs.Verified.{AfterImage, elf_refused, elf_accepted, AfterNotes, notes_refused, program_found}
 use Rattle.answer_laws.specs.Told.{IsTold, IsPairTold, AreToldTo, AfterFiles, AfterWholeFiles, AfterPairFiles, IsAnswerTo, IsAnswered}
 
@@ -104,30 +102,31 @@ module _ (s : Surroundings) (content : List ℕ → List ℕ) where
   answer_told (Verify o elf notes b) a told due =
       whole_told o elf notes (λ file. IsVerifiedWhole (layout_of o file) b) (IsVerifiedWhole (layout_of o (content elf)) b) a (λ w is. is) told.0 told.1 due
   answer_told (Lift o elf) a told due = read_told elf (λ file. AfterImage file (IsLifted o file)) a told due
-  answer_told (Graph o elf notes) a told due = both_told o elf notes (λ file p. IsGraphed p) IsGraphed a (λ p is. is) told.0 told.1 due
-  answer_told (Script o elf notes kind b) a told due =
-      both_told o elf notes (λ file p. IsScriptAnswer p (layout_of o file) b kind) (λ p. IsScriptAnswer p (layout_of o (content elf)) b kind) a (λ p is. is)
+  answer_told (Graph o elf notes) a told due =
+      whole_told o elf notes (λ file w. IsGraphed w.program) (λ w. IsGraphed w.program) a (λ w is. is) told.0 told.1 due
+  answer_told (Script o elf notes question b) a told due =
+      whole_told o elf notes (λ file. IsScriptWhole (layout_of o file) b question) (IsScriptWhole (layout_of o (content elf)) b question) a (λ w is. is)
       told.0 told.1 due
   answer_told (Replay o elf notes report) a told due =
       whole_told o elf notes (λ file w. AfterRead s report (λ text. IsReplayedWhole (layout_of o file) text w))
       (IsReplayedWhole (layout_of o (content elf)) (content report)) a
       (λ w is. read_told report (λ text. IsReplayedWhole (layout_of o (content elf)) text w) a told.2 is) told.0 told.1 due
-  answer_told (Certify o elf notes kind b) a told due =
-      both_told o elf notes (λ file p x. IsCertified p b kind x.status x.text x.evidence) (λ p x. IsCertified p b kind x.status x.text x.evidence) a
-      (λ p is. is) told.0 told.1 due
+  answer_told (Certify o elf notes question b) a told due =
+      whole_told o elf notes (λ file. IsCertifiedWhole b question) (IsCertifiedWhole b question) a (λ w is. is) told.0 told.1 due
   answer_told (Check name) a told due = read_told name (λ text x. IsChecked text x.status x.text × (x.evidence ≡ NoEvidence)) a told due
   answer_told (SelfRun seed count) a told due = due
   answer_told (Upgrade o elf notes) a told due =
-      let notes_next : List ℕ → List ℕ → Answer → Type 0 = λ file text. AfterNotes o file text (λ p x. x ≡ upgrade_answer text) in
+      let notes_next : List ℕ → List ℕ → Answer → Type 0 = λ file text. AfterFrames o file text (λ w x. x ≡ upgrade_answer text) in
       image_told elf (AfterRead s notes (notes_next (content elf))) (notes_next (content elf) (content notes)) a
       (λ next. read_told notes (notes_next (content elf)) a told.1 next)
       (read_told elf (λ file. AfterImage file (AfterRead s notes (notes_next file))) a told.0 due)
-  answer_told (Model o elf notes answer kind b) a told due =
-      both_told o elf notes (λ file p. AfterBudgets p b (AfterRead s answer (IsModelAnswer p (layout_of o file) b kind)))
-      (λ p. AfterBudgets p b (IsModelAnswer p (layout_of o (content elf)) b kind (content answer))) a
-      (λ p. budgets_met p b (AfterRead s answer (IsModelAnswer p (layout_of o (content elf)) b kind))
-      (IsModelAnswer p (layout_of o (content elf)) b kind (content answer)) a
-      (λ next. read_told answer (IsModelAnswer p (layout_of o (content elf)) b kind) a told.2 next))
+  answer_told (Model o elf notes answer question b) a told due =
+      let kind = program_question question in
+      both_told o elf notes (λ file p. AfterBudgets p b (AfterRead s answer (IsAskedModelAnswer p (layout_of o file) b kind)))
+      (λ p. AfterBudgets p b (IsAskedModelAnswer p (layout_of o (content elf)) b kind (content answer))) a
+      (λ p. budgets_met p b (AfterRead s answer (IsAskedModelAnswer p (layout_of o (content elf)) b kind))
+      (IsAskedModelAnswer p (layout_of o (content elf)) b kind (content answer)) a
+      (λ next. read_told answer (IsAskedModelAnswer p (layout_of o (content elf)) b kind) a told.2 next))
       told.0 told.1 due
   answer_told (Equal o names b) a told due =
       pair_told o names (λ f g p q links. IsPairReported (side_of o f p) (side_of o g q) links b)

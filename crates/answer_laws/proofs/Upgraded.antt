@@ -13,7 +13,8 @@ use Rattle.bilv_spec.specs.Files.{is_rv}
 use Rattle.notes_spec.specs.Programs.{vocabulary_of}
 use Rattle.word_spec.specs.Texts.{line}
 use Rattle.notes_spec.specs.Upgrades.{upgraded, later_notes, later_program}
-use Rattle.notes_spec.specs.Verified.{notes_limit, IsFound, AfterImage, elf_refused, elf_accepted, AfterNotes, notes_refused, program_found}
+use Rattle.notes_spec.specs.Verified.{notes_limit, IsFound, AfterImage, elf_refused, elf_accepted}
+use Rattle.answer_spec.specs.FrameAnswers.{AfterFrames, frames_refused, frames_found}
 use Rattle.command_spec.specs.Commands.{Upgrade}
 use Rattle.answer_spec.specs.Outcomes.{upgrade_answer, IsOutcome, whole, cut, no_memory}
 use Rattle.notes_spec.proofs.LaterRuns.{verdict_is_same}
@@ -65,12 +66,12 @@ sized text true e a is zero_is =
     (same, subst (λ (t : List ℕ). length t ≤ notes_limit) (sym same) room)
 sized text false e a is zero_is = let five : a.status ≡ 5 = ap (λ (x : Answer). x.status) is in absurd (omega arith)
 
-by_notes : (o : Options) (file text : List ℕ) (a : Answer) → AfterNotes o file text (λ p a. a ≡ upgrade_answer text) a → a.status ≡ 0 → IsPrinted o file text a
-by_notes o file text a (notes_refused written h is) e = let five : a.status ≡ 5 = ap (λ (x : Answer). x.status) is in absurd (omega arith)
-by_notes o file text a (program_found p found next) e = sized text (nat_le (length (upgraded text)) notes_limit) refl a next e
+by_notes : (o : Options) (file text : List ℕ) (a : Answer) → AfterFrames o file text (λ w a. a ≡ upgrade_answer text) a → a.status ≡ 0 → IsPrinted o file text a
+by_notes o file text a (frames_refused written h is) e = let five : a.status ≡ 5 = ap (λ (x : Answer). x.status) is in absurd (omega arith)
+by_notes o file text a (frames_found w found next) e = sized text (nat_le (length (upgraded text)) notes_limit) refl a next e
 
 by_image : (s : Surroundings) (o : Options) (elf notes file text : List ℕ) (a : Answer) → AreTold s elf notes file text →
-    AfterImage file (AfterRead s notes (λ text. AfterNotes o file text (λ p a. a ≡ upgrade_answer text))) a → a.status ≡ 0 → IsPrinted o file text a
+    AfterImage file (AfterRead s notes (λ text. AfterFrames o file text (λ w a. a ≡ upgrade_answer text))) a → a.status ≡ 0 → IsPrinted o file text a
 by_image s o elf notes file text a told (elf_refused written h is) e =
     let four : a.status ≡ 4 = ap (λ (x : Answer). x.status) is in absurd (omega arith)
 by_image s o elf notes file text a told (elf_accepted accepted next) e =

@@ -4,7 +4,7 @@ use Rattle.call_spec.specs.Outside.{Bytes, Rose, Appends}
 use Rattle.bilv_spec.specs.Run.{Program}
 use Rattle.bilv_spec.specs.Verdict.{Verdict, Holds, Vacuous, Fails, Unroll, IsRight}
 use Rattle.bilv_spec.specs.Points.{HasMore, IsPrice}
-use Rattle.call_spec.specs.Calls.{Options, Budget, Evidence, RunOf, SpentOn, SpentOnPair, Answer, plain_answer, Surroundings}
+use Rattle.call_spec.specs.Calls.{Options, Budget, Evidence, RunOf, FromHead, WithCalls, SpentOn, SpentOnFrame, SpentOnPair, Answer, plain_answer, Surroundings}
 use Rattle.bilv_spec.specs.Files.{layout_of}
 use Rattle.bilv_spec.specs.Answers.{IsWithin, Report, HoldsReport, VacuousReport, FailsReport, UnrollReport, PointsReport, SizeReport, IsRightReport, report_answer, report_text, status_of}
 use Rattle.frame_spec.specs.FrameVerdict.{Whole}
@@ -12,6 +12,7 @@ use Rattle.notes_spec.specs.Verified.{IsAccepted, IsElfRefused, AreNotesRefusedI
 use Rattle.command_spec.specs.Commands.{Verify}
 use Rattle.answer_spec.specs.FrameAnswers.{dialect_for, IsFrameFound, IsFrameReported}
 use Rattle.answer_spec.specs.Outcomes.{IsOutcome}
+use Rattle.answer_laws.specs.Replayed.{AreBytes}
 
 -- what a program comes to within a budget, where no question spends its conflicts: too many points, a price above the size, or a verdict
 pub data Finding : Type 0 where
@@ -42,23 +43,27 @@ Says report finding = ⊥
 -- the evidence is that of a question that spent its conflicts
 abbrev pub IsSpentEvidence : Evidence → Type 0
 IsSpentEvidence (SpentOn kind proof) = Unit {0}
+IsSpentEvidence (SpentOnFrame rank question proof) = Unit {0}
 IsSpentEvidence (SpentOnPair kind proof) = Unit {0}
 IsSpentEvidence other = ⊥
 
--- the evidence is a run, whose start the text shows
+-- the evidence is a run or a segment, whose start the text shows
 abbrev pub ShowsRun : Evidence → Type 0
 ShowsRun (RunOf w) = Unit {0}
+ShowsRun (FromHead w head) = Unit {0}
+ShowsRun (WithCalls rank w calls) = Unit {0}
 ShowsRun other = ⊥
 
 -- The answer to two files and options, by what they are: the refusal of the first that is refused; or the right report that says what their program comes to;
--- or, with invariants, a right report over frames.
+-- or, with invariants, a right report over frames that spent no question's conflicts.
 pub data Answers (o : Options) (file text : List ℕ) (b : Budget) (a : Answer) : Type 0 where
   elf_is_refused : (written : List ℕ) → IsElfRefused file written → a ≡ plain_answer 4 written → Answers o file text b a
   notes_are_refused : (written : List ℕ) → IsAccepted file → AreNotesRefusedIn (dialect_for text) o file text written → a ≡ plain_answer 5 written →
       Answers o file text b a
   is_reported : (p : Program) (f : Finding) (r : Report) (e : Evidence) → IsFound o file text p → ComesTo p b f → Says r f →
       IsRightReport p (layout_of o file) b r e → a ≡ report_answer (layout_of o file) b r e → Answers o file text b a
-  frames_are_reported : (w : Whole) → IsFrameFound o file text w → w.invariants ≢ [] → IsFrameReported w (layout_of o file) b a → Answers o file text b a
+  frames_are_reported : (w : Whole) → IsFrameFound o file text w → w.invariants ≢ [] → IsFrameReported w (layout_of o file) b a →
+      ¬ IsSpentEvidence a.evidence → Answers o file text b a
 
 -- both files are told, and the counts of faults of their names did not rise
 pub record AreTold (s : Surroundings) (elf notes file text : List ℕ) : Type 0 where
@@ -68,8 +73,7 @@ pub record AreTold (s : Surroundings) (elf notes file text : List ℕ) : Type 0 
   pub notes_calm : ¬ Rose (s.shelf_before notes) (s.shelf_after notes)
 
 -- Where both files are told and read without fault, no write failed (the status is not 7, or the sink's count did not rise), the status is not that of want of
--- memory, and the evidence is not of a question that spent its conflicts, the outcome is such an answer, written whole. (A report over frames has no evidence;
--- its text says where a question spent its conflicts.)
+-- memory, and the evidence is not of a question that spent its conflicts, the outcome is such an answer, written whole.
 abbrev pub VerifyIsComplete : Type 0
 VerifyIsComplete =
     (s : Surroundings) (o : Options) (elf notes file text : List ℕ) (b : Budget) (status : ℕ) (evidence : Evidence) → AreTold s elf notes file text →
@@ -85,7 +89,7 @@ FindingIsReported =
     (r : Report) × Says r f × IsRightReport p (layout_of o file) b r evidence × (status ≡ status_of r)
     × Appends s.text_before (report_text (layout_of o file) b r evidence) s.text_after
 
--- The same answer but for the run that is shown: one status; a run is shown by both or by neither; the same text where none is shown; and all the same
+-- The same answer but for the run, or the segment, that is shown: one status; one is shown by both or by neither; the same text where none is shown; and all the same
 -- where the evidence is, so that the text is that of the start that it shows.
 pub record AreSameButRun (a c : Answer) : Type 0 where
   pub status : a.status ≡ c.status
@@ -93,15 +97,14 @@ pub record AreSameButRun (a c : Answer) : Type 0 where
   pub text : (¬ ShowsRun a.evidence) → a.text ≡ c.text
   pub whole : a.evidence ≡ c.evidence → a ≡ c
 
--- no invariants are found of two files
-abbrev pub HaveNoInvariants : Options → (file text : List ℕ) → Type 0
-HaveNoInvariants o file text = (w : Whole) → IsFrameFound o file text w → w.invariants ≡ []
+-- each number of the file is a byte, where the notes have invariants
+abbrev pub HasBytes : Options → (file text : List ℕ) → Type 0
+HasBytes o file text = (w : Whole) → IsFrameFound o file text w → w.invariants ≢ [] → AreBytes file
 
--- two files without invariants, options and a budget have one such answer, but for the run that it shows
+-- two files, options and a budget have one such answer, but for the run or the segment that it shows
 abbrev pub OneAnswer : Type 0
 OneAnswer =
-    (o : Options) (file text : List ℕ) (b : Budget) (a c : Answer) → HaveNoInvariants o file text → Answers o file text b a → Answers o file text b c →
-    AreSameButRun a c
+    (o : Options) (file text : List ℕ) (b : Budget) (a c : Answer) → HasBytes o file text → Answers o file text b a → Answers o file text b c → AreSameButRun a c
 
 -- and two files and options have one program at most
 abbrev pub OneProgram : Type 0

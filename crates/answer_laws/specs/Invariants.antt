@@ -1,12 +1,13 @@
 -- What a call says of a function whose notes have invariants.
-use Rattle.std.specs.Prelude.{ℕ, List, Some, codes}
+use Rattle.std.specs.Prelude.{ℕ, ◌≡◌, ◌≢◌, List, [], Some, codes}
 use Rattle.answer_laws.specs.Replayed.{AreBytes}
 use Rattle.answer_laws.specs.Told.{AreToldTo}
 use Rattle.answer_laws.specs.TwoCalls.{IsPrinted}
-use Rattle.answer_spec.specs.FrameAnswers.{IsFrameFound}
+use Rattle.answer_spec.specs.FrameAnswers.{IsFrameFound, IsCertifiedWhole}
 use Rattle.answer_spec.specs.Outcomes.{IsOutcome}
 use Rattle.bilv_spec.specs.Verdict.{IsEntryState, IsStart, RunFails}
-use Rattle.call_spec.specs.Calls.{Budget, Evidence, Options, Surroundings}
+use Rattle.call_spec.specs.Framed.{StepQuestion}
+use Rattle.call_spec.specs.Calls.{Answer, Budget, Evidence, Options, Surroundings}
 use Rattle.command_spec.specs.Commands.{Verify}
 use Rattle.frame_spec.specs.FrameVerdict.{Whole}
 use Rattle.machine_spec.specs.Endings.{Start}
@@ -27,3 +28,9 @@ InvariantsMean =
     (s : Surroundings) (o : Options) (content : List ℕ → List ℕ) (elf notes : List ℕ) (b : Budget) (e : Evidence) → AreBytes (content elf) →
     AreToldTo s content (Verify o elf notes b) → IsOutcome s (Some (Verify o elf notes b)) 0 e → IsPrinted s (line (codes "holds partially")) →
     NeverFails o (content elf) (content notes)
+
+-- Where notes have no invariants, no call that certifies says that the question about head states is satisfiable.
+abbrev pub StepIsFalse : Type 0
+StepIsFalse =
+    (o : Options) (file text : List ℕ) (w : Whole) → IsFrameFound o file text w → w.invariants ≡ [] → (b : Budget) (a : Answer) →
+    IsCertifiedWhole b StepQuestion w a → a.status ≢ 1

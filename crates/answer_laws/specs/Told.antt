@@ -1,19 +1,17 @@
 -- The answer to a command over files that are told.
 use Rattle.std.specs.Prelude.{ℕ, ◌≡◌, List, Option}
 use Rattle.call_spec.specs.Outside.{Bytes, Rose, Appends}
-use Rattle.call_spec.specs.Calls.{Answer, Evidence, NoEvidence, Options, Surroundings}
-use Rattle.bilv_spec.specs.Certified.{IsCertified}
+use Rattle.call_spec.specs.Calls.{Answer, Evidence, NoEvidence, Options, Surroundings, program_question}
 use Rattle.bilv_spec.specs.Files.{layout_of}
 use Rattle.command_spec.specs.Commands.{Command, Verify, Lift, Graph, Script, Replay, Certify, Check, SelfRun, Upgrade, Model, Equal, Differ, PairNames}
-use Rattle.answer_spec.specs.FrameAnswers.{AfterFrames, IsVerifiedWhole, IsReplayedWhole}
+use Rattle.answer_spec.specs.FrameAnswers.{AfterFrames, IsVerifiedWhole, IsReplayedWhole, IsCertifiedWhole, IsScriptWhole}
 use Rattle.answer_spec.specs.Outcomes.{IsLifted, IsGraphed, IsSelfRun, upgrade_answer}
-use Rattle.model_spec.specs.Models.{AfterBudgets, IsModelAnswer}
+use Rattle.model_spec.specs.Models.{AfterBudgets, IsAskedModelAnswer}
 use Rattle.pair_spec.specs.Differs.{differ_answer}
 use Rattle.pair_spec.specs.Links.{Link}
 use Rattle.pair_spec.specs.Equals.{side_of, ByContents, IsCompared}
 use Rattle.clause_spec.specs.Checks.{IsChecked}
 use Rattle.bilv_spec.specs.Run.{Program}
-use Rattle.bilv_spec.specs.Scripts.{IsScriptAnswer}
 use Rattle.frame_spec.specs.FrameVerdict.{Whole}
 use Rattle.notes_spec.specs.Verified.{AfterImage, AfterNotes}
 
@@ -59,16 +57,18 @@ AfterPairFiles o content names Next =
 abbrev pub IsAnswerTo : (content : List ℕ → List ℕ) → Command → Answer → Type 0
 IsAnswerTo content (Verify o elf notes b) = AfterWholeFiles o (content elf) (content notes) (IsVerifiedWhole (layout_of o (content elf)) b)
 IsAnswerTo content (Lift o elf) = AfterImage (content elf) (IsLifted o (content elf))
-IsAnswerTo content (Graph o elf notes) = AfterFiles o (content elf) (content notes) IsGraphed
-IsAnswerTo content (Script o elf notes kind b) = AfterFiles o (content elf) (content notes) (λ p. IsScriptAnswer p (layout_of o (content elf)) b kind)
+IsAnswerTo content (Graph o elf notes) = AfterWholeFiles o (content elf) (content notes) (λ w. IsGraphed w.program)
+IsAnswerTo content (Script o elf notes question b) =
+    AfterWholeFiles o (content elf) (content notes) (IsScriptWhole (layout_of o (content elf)) b question)
 IsAnswerTo content (Replay o elf notes report) =
     AfterWholeFiles o (content elf) (content notes) (IsReplayedWhole (layout_of o (content elf)) (content report))
-IsAnswerTo content (Certify o elf notes kind b) = AfterFiles o (content elf) (content notes) (λ p a. IsCertified p b kind a.status a.text a.evidence)
+IsAnswerTo content (Certify o elf notes question b) = AfterWholeFiles o (content elf) (content notes) (IsCertifiedWhole b question)
 IsAnswerTo content (Check certificate) = λ a. IsChecked (content certificate) a.status a.text × (a.evidence ≡ NoEvidence)
 IsAnswerTo content (SelfRun seed count) = IsSelfRun seed count
-IsAnswerTo content (Upgrade o elf notes) = AfterFiles o (content elf) (content notes) (λ p a. a ≡ upgrade_answer (content notes))
-IsAnswerTo content (Model o elf notes answer kind b) =
-    AfterFiles o (content elf) (content notes) (λ p. AfterBudgets p b (IsModelAnswer p (layout_of o (content elf)) b kind (content answer)))
+IsAnswerTo content (Upgrade o elf notes) = AfterWholeFiles o (content elf) (content notes) (λ w a. a ≡ upgrade_answer (content notes))
+IsAnswerTo content (Model o elf notes answer question b) =
+    AfterFiles o (content elf) (content notes)
+    (λ p. AfterBudgets p b (IsAskedModelAnswer p (layout_of o (content elf)) b (program_question question) (content answer)))
 IsAnswerTo content (Equal o names b) =
     IsCompared o (content names.elf) (content names.other_elf) (content names.notes) (content names.other_notes) (content names.links) b
 IsAnswerTo content (Differ o names report) =

@@ -2,7 +2,8 @@
 use Rattle.std.specs.Prelude.{ℕ, ◌≡◌, ◌≢◌, ◌≤◌, ◌^◌, ◌++◌, List, Some, codes, length}
 use Rattle.answer_laws.specs.Completeness.{ShowsRun}
 use Rattle.answer_laws.specs.Replayed.{AreBytes, IsReplayable}
-use Rattle.call_spec.specs.Calls.{Budget, Evidence, Options, Surroundings, EntryQuestion, Question}
+use Rattle.call_spec.specs.Framed.{EntryQuestion, Question}
+use Rattle.call_spec.specs.Calls.{Budget, Evidence, Options, Surroundings}
 use Rattle.clause_spec.specs.Certificates.{certificate_text}
 use Rattle.clause_spec.specs.Refutation.{Proof}
 use Rattle.command_spec.specs.Commands.{Verify, Replay, Certify, Check, Model}
@@ -10,7 +11,8 @@ use Rattle.answer_spec.specs.Outcomes.{IsOutcome}
 use Rattle.call_spec.specs.Outside.{Rose, Appends}
 use Rattle.clause_spec.specs.Checks.{text_limit}
 use Rattle.machine_spec.specs.Endings.{NamedEnding, named_line}
-use Rattle.word_spec.specs.Texts.{line}
+use Rattle.word_spec.specs.Texts.{joined, line}
+use Rattle.frame_texts_spec.specs.FrameTexts.{FramedEnding, ending_words}
 use Rattle.answer_laws.specs.Told.{AreToldTo}
 
 -- a call of a command wrote this text whole, with status 0
@@ -35,14 +37,14 @@ CertificateIsAccepted =
     × (proof.clauses.variables ≤ 2 ^ 30 → length proof.clauses.clauses ≤ 2 ^ 30 → length (content name) ≤ text_limit →
     AreToldTo t content (Check name) → Sufficed t status → IsOutcome t (Some (Check name)) status f → Writes t status (line (codes "accepted")))
 
--- The report that a call that verifies wrote, where it shows a run, is replayed by a call over the same files, within the limit of bytes.
+-- The report that a call that verifies wrote, where it shows a run or a segment, is replayed by a call over the same files, within the limit of bytes.
 abbrev pub ReportIsReplayed : Type 0
 ReportIsReplayed =
     (s t : Surroundings) (o : Options) (content : List ℕ → List ℕ) (elf notes report : List ℕ) (b : Budget) (first status : ℕ) (e f : Evidence) →
     AreBytes (content elf) → IsReplayable b → AreToldTo s content (Verify o elf notes b) → IsOutcome s (Some (Verify o elf notes b)) first e → ShowsRun e →
     IsPrinted s (content report) → length (content report) ≤ text_limit → AreToldTo t content (Replay o elf notes report) → Sufficed t status →
     IsOutcome t (Some (Replay o elf notes report)) status f →
-    (n : NamedEnding) × Writes t status (line (codes "replayed " ++ named_line n))
+    (n : FramedEnding) × Writes t status (line (codes "replayed " ++ joined (ending_words n)))
 
 -- What a call that judges an answer wrote behind its first line, where it shows a run, is a report, which is replayed by a call over the same files, within the
 -- limit of bytes. The question is not that of entry states, whose start has no run.

@@ -21,7 +21,7 @@ pub fn finding_is_reported()
     ensures { FindingIsReported }
 {}
 
-/// Two files and a budget have one such answer, but for the run that it shows.
+/// Two files and a budget have one such answer, but for the run or the segment that it shows.
 pub fn one_answer()
     ensures { OneAnswer }
 {}

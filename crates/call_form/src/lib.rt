@@ -5,4 +5,4 @@ mod budget;
 mod kind;
 
 pub use budget::{Budget, CONFLICTS, POINTS, Range, SIZE, UNROLL};
-pub use kind::Kind;
+pub use kind::{Asked, Kind};

@@ -1,6 +1,7 @@
 -- Command lines, and what they ask for.
 use Rattle.std.proofs.Common.{◌≡◌, true, false, refl, codes, [], ◌∷◌, Some, None}
-use Rattle.call_spec.specs.Calls.{default_budget, default_options, FailQuestion, TurnQuestion}
+use Rattle.call_spec.specs.Framed.{FailQuestion, TurnQuestion}
+use Rattle.call_spec.specs.Calls.{default_budget, default_options}
 use Rattle.word_spec.specs.Profiles.{V4, V4T, V5}
 use Rattle.command_spec.specs.Commands.{Lift, Graph, Script, SelfRun, Upgrade, Equal, Model, Verify}
 use Rattle.clap.proofs.OnLiterals.{clap_on_literals}

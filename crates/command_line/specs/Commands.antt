@@ -2,7 +2,7 @@
 use Rattle.call_spec.specs.Calls as asked
 use Rattle.command_spec.specs.Commands as outcomes
 use Rattle.start_value.specs.Starts.{profile_in}
-pub use Rattle.call_form.specs.Views.{budget_of, kind_of}
+pub use Rattle.call_form.specs.Views.{budget_of, frame_question}
 use Rattle.command_line.specs.declared.command.Options.{Options}
 use Rattle.command_line.specs.declared.command.PairNames.{PairNames}
 use Rattle.command_line.specs.declared.command.Command.{Command}
@@ -24,13 +24,13 @@ abbrev pub command_of : Command → outcomes.Command
 command_of (Verify elf notes options budget) = outcomes.Verify (options_of options) elf.now notes.now (budget_of budget)
 command_of (Lift elf options) = outcomes.Lift (options_of options) elf.now
 command_of (Graph elf notes options) = outcomes.Graph (options_of options) elf.now notes.now
-command_of (Script elf notes options question budget) = outcomes.Script (options_of options) elf.now notes.now (kind_of question) (budget_of budget)
+command_of (Script elf notes options question budget) = outcomes.Script (options_of options) elf.now notes.now (frame_question question) (budget_of budget)
 command_of (Replay elf notes options state) = outcomes.Replay (options_of options) elf.now notes.now state.now
-command_of (Certify elf notes options question budget) = outcomes.Certify (options_of options) elf.now notes.now (kind_of question) (budget_of budget)
+command_of (Certify elf notes options question budget) = outcomes.Certify (options_of options) elf.now notes.now (frame_question question) (budget_of budget)
 command_of (Check certificate) = outcomes.Check certificate.now
 command_of (SelfRun seed count) = outcomes.SelfRun seed count
 command_of (Upgrade elf notes options) = outcomes.Upgrade (options_of options) elf.now notes.now
 command_of (Equal names options budget) = outcomes.Equal (options_of options) (names_of names) (budget_of budget)
 command_of (Differ names options report) = outcomes.Differ (options_of options) (names_of names) report.now
 command_of (Model elf notes answer options question budget) =
-    outcomes.Model (options_of options) elf.now notes.now answer.now (kind_of question) (budget_of budget)
+    outcomes.Model (options_of options) elf.now notes.now answer.now (frame_question question) (budget_of budget)

@@ -2,7 +2,8 @@
 use Rattle.std.specs.Prelude.{ℕ, ◌≡◌, ◌^◌, ◌&&◌, List, [], ◌∷◌, Option, Some, None, Bool, true, false, codes, fold, if◌then◌else◌, nat_le}
 use Rattle.std.specs.Str.{bytes_eq}
 use Rattle.std.specs.Str.Parse.{digits_value, without_leading_plus}
-use Rattle.call_spec.specs.Calls.{Question, EntryQuestion, FailQuestion, TurnQuestion, Budget, Options}
+use Rattle.call_spec.specs.Framed.{Question, EntryQuestion, FailQuestion, StepQuestion, TurnQuestion}
+use Rattle.call_spec.specs.Calls.{Budget, Options}
 use Rattle.word_spec.specs.Profiles.{Profile, V4, V4T, V5}
 use Rattle.command_spec.specs.Commands as of
 use Rattle.clap.specs.Words.{App, Row, Rule, Text, app_of, fault_of, first_of, new_app, new_rule, one_of, subcommand_of, with_rule, with_subcommand}
@@ -166,6 +167,7 @@ budget_in rows = do
 abbrev pub question_named : Text → Option Question
 question_named name = if bytes_eq name (codes "entry") then Some EntryQuestion
     else if bytes_eq name (codes "fail") then Some FailQuestion
+    else if bytes_eq name (codes "step") then Some StepQuestion
     else if bytes_eq name (codes "turn") then Some TurnQuestion else None
 
 abbrev pub question_in : List Row → Option Question
@@ -313,7 +315,7 @@ command_in found = found >>= λ p. command_named p.0 p.1
 unfoldable pub takes_line : List Text → Bool
 takes_line words = is_empty (fault_of bilv_app words)
 
--- The command of a line, by its words, the first of which is the program's name. A line is lawful where `clap` takes it, and its question and its
--- profile, if it has them, are each one of the three.
+-- The command of a line, by its words, the first of which is the program's name. A line is lawful where `clap` takes it, its question, if it has one, is one of
+-- the four, and its profile one of the three.
 abbrev pub lawful_command : List Text → Option of.Command
 lawful_command words = if takes_line words then command_in (subcommand_of bilv_app words) else None

@@ -1,5 +1,5 @@
 //! Commands.
-use call_form::{Budget, Kind};
+use call_form::{Asked, Budget};
 use start_value::Profile;
 
 /// What an executable leaves open of its machine.
@@ -68,7 +68,7 @@ pub enum Command<'a> {
         elf: &'a str,
         notes: &'a str,
         options: Options,
-        question: Kind,
+        question: Asked,
         budget: Budget,
     },
     /// Runs the start that a report holds.
@@ -83,7 +83,7 @@ pub enum Command<'a> {
         elf: &'a str,
         notes: &'a str,
         options: Options,
-        question: Kind,
+        question: Asked,
         budget: Budget,
     },
     /// Checks a certificate.
@@ -119,7 +119,7 @@ pub enum Command<'a> {
         notes: &'a str,
         answer: &'a str,
         options: Options,
-        question: Kind,
+        question: Asked,
         budget: Budget,
     },
 }

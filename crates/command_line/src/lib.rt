@@ -7,6 +7,6 @@ mod program;
 mod reader;
 mod values;
 
-pub use call_form::{Budget, Kind};
+pub use call_form::{Asked, Budget, Kind};
 pub use command::{Command, Options, PairNames};
 pub use reader::{LineError, read_command};

@@ -2,13 +2,13 @@
 ghost use Rattle.std.specs.Prelude.{◌≡◌, ◌≤◌, IfSome, option_map};
 ghost use Rattle.command_spec.specs.Commands.{IsLawfulCommand};
 ghost use Rattle.clap.specs.Words.{found_of, rows_of};
-ghost use Rattle.command_line.specs.Commands.{budget_of, command_of, kind_of, names_of, options_of};
+ghost use Rattle.command_line.specs.Commands.{budget_of, command_of, frame_question, names_of, options_of};
 ghost use Rattle.command_line.specs.Lines as lines;
 ghost use Rattle.start_value.specs.Starts.{profile_in};
 
 use crate::command::{Command, Options, PairNames};
 use crate::found::{number, text};
-use call_form::{Budget, CONFLICTS, Kind, POINTS, Range, SIZE, UNROLL};
+use call_form::{Asked, Budget, CONFLICTS, POINTS, Range, SIZE, UNROLL};
 use clap::ArgMatches;
 use start_value::Profile;
 
@@ -34,19 +34,20 @@ fn budget(matches: &ArgMatches<'_>) -> Option<Budget>
     })
 }
 
-fn question_named(name: &str) -> Option<Kind>
-    ensures { option_map kind_of result ≡ lines.question_named name.now }
+fn question_named(name: &str) -> Option<Asked>
+    ensures { option_map frame_question result ≡ lines.question_named name.now }
 {
     match name {
-        "entry" => Some(Kind::Entry),
-        "fail" => Some(Kind::Fail),
-        "turn" => Some(Kind::Turn),
+        "entry" => Some(Asked::Entry),
+        "fail" => Some(Asked::Fail),
+        "step" => Some(Asked::Step),
+        "turn" => Some(Asked::Turn),
         _ => None,
     }
 }
 
-fn question(matches: &ArgMatches<'_>) -> Option<Kind>
-    ensures { option_map kind_of result ≡ lines.question_in (rows_of (found_of matches.now)) }
+fn question(matches: &ArgMatches<'_>) -> Option<Asked>
+    ensures { option_map frame_question result ≡ lines.question_in (rows_of (found_of matches.now)) }
 {
     question_named(text(matches, "question")?)
 }

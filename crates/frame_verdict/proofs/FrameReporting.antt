@@ -20,8 +20,8 @@ use Rattle.call_form.specs.declared.budget.Budget.{Budget}
 use Rattle.cnf_form.specs.Views.{proof_of}
 use Rattle.cnf_form.specs.declared.form.Proof.{Proof}
 use Rattle.question_form.specs.Asked.{frame_question}
-use Rattle.question_form.specs.declared.questions.Asked.{Asked}
-use Rattle.question_form.specs.declared.questions.Asked.TheVariants as asked
+use Rattle.call_form.specs.declared.kind.Asked.{Asked}
+use Rattle.call_form.specs.declared.kind.Asked.TheVariants as asked
 use Rattle.start_value.specs.Starts.{written_of}
 use Rattle.start_value.specs.declared.start.Start.{Start}
 use Rattle.state_text.specs.Starts.{frame_event_of}
@@ -212,6 +212,7 @@ module _ (p : Program) (invariants : List ℕ) (lawful : HasLawfulRows p) (reads
       (shown_start w f layout (shown_by start (Some head)), is, (λ q. cc), fails places last start (Some head) e shown is finds v at n same),
     ),
     (λ q. cc),
+    refl,
     shown,
     is,
     ends_event places last start (Some head) e shown is finds v at n same,

@@ -44,7 +44,7 @@ use Rattle.table_run.specs.FrameEnds.{frame_of}
 use Rattle.unroller.specs.Lookups.{HasForm}
 use Rattle.unroller.specs.RootPoints.{BeginAtOwn, IsEntryFirst}
 use Rattle.unroller.proofs.FileRows.{file_rows_lawful}
-use Rattle.frame_rounds.specs.FrameRounds.{IsFrameAskable}
+use Rattle.frame_start.specs.Segments.{IsFrameAskable}
 use Rattle.verdict.proofs.Grounding.{all_readable, uncapped}
 use Rattle.frame_verdict.specs.FrameMeasures.{IsFrameMeasurable, IsFrameUnrolledOf, IsWeighed}
 use Rattle.frame_verdict.proofs.SegmentRuns.{has_places}

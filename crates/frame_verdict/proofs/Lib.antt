@@ -6,3 +6,5 @@ pub mod SegmentRuns
 pub mod FrameReporting
 pub mod Trying
 pub mod Grounding
+mod Satisfied
+pub mod FrameScripting

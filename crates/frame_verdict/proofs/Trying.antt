@@ -25,8 +25,8 @@ use Rattle.question_form.specs.Asked.{frame_question}
 use Rattle.program_points.specs.Listed.{anchor_of}
 use Rattle.program_points.specs.Tables.{stacks_of}
 use Rattle.question_form.specs.FrameViews.{anchor_at, no_root}
-use Rattle.question_form.specs.declared.questions.Asked.{Asked}
-use Rattle.question_form.specs.declared.questions.Asked.TheVariants as asked
+use Rattle.call_form.specs.declared.kind.Asked.{Asked}
+use Rattle.call_form.specs.declared.kind.Asked.TheVariants as asked
 use Rattle.question_form.specs.declared.unrolled.Root.{Root}
 use Rattle.question_form.specs.declared.unrolled.Unrolled.{Unrolled}
 use Rattle.start_value.specs.Starts.{written_of}
@@ -34,8 +34,9 @@ use Rattle.state_text.specs.Starts.{written_head_of}
 use Rattle.state_text.specs.declared.start.HeadStart.{HeadStart}
 use Rattle.table_run.specs.FrameEnds.{frame_found_of, frame_of, whole_of}
 use Rattle.table_run.specs.declared.ending.FrameEnding.{FrameEnding}
-use Rattle.frame_rounds.specs.FrameGrounds.{AreSegments, IsFrameGround, ShowsQuestion, choices_at, shown_at}
-use Rattle.frame_rounds.specs.declared.answers.Segments.{Segments}
+use Rattle.frame_rounds.specs.FrameGrounds.{AreSegments, IsFrameGround, ShowsQuestion, shown_at}
+use Rattle.frame_start.specs.declared.meaning.Segments.{Segments}
+use Rattle.frame_start.specs.Segments.{choices_at}
 use Rattle.frame_rounds.proofs.FrameRoots.{root_of_number, head_written}
 use Rattle.frame_verdict.specs.FrameMeasures.{IsFrameMeasurable}
 use Rattle.frame_verdict.specs.ShownEnds.{Ends, EndsAsAsked, HasHead, IsEndOf, IsEnded, IsHeadFor, IsHeadWritten, is_end, shown_of, start_of, wants_anchor}

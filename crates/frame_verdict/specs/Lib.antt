@@ -3,3 +3,5 @@ pub mod FrameFunctions
 pub mod FrameMeasures
 pub mod ShownEnds
 pub mod Questions
+pub mod FrameCertificates
+pub mod FrameScripted

@@ -20,7 +20,7 @@ use Rattle.table_run.specs.declared.ending.FrameEnding.{FrameEnding}
 use Rattle.question_form.specs.FrameViews.{anchor_at}
 use Rattle.question_form.specs.declared.unrolled.Unrolled.{Unrolled}
 use Rattle.frame_rounds.specs.FrameGrounds.{shown_at}
-use Rattle.frame_rounds.specs.declared.answers.Segments.{Segments}
+use Rattle.frame_start.specs.declared.meaning.Segments.{Segments}
 use Rattle.frame_verdict.specs.FrameVerdicts.{shown_by}
 use Rattle.frame_verdict.specs.declared.segments.Shown.{Shown}
 use Rattle.frame_verdict.specs.declared.shown.Ended.{Ended}

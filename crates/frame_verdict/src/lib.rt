@@ -2,12 +2,16 @@
 //! addresses of the invariants, the heads, and judged segment by segment.
 #![tactic(auto)]
 
+mod certifying;
 mod framed;
 mod measuring;
+mod scripting;
 mod segments;
 mod shown;
 mod verdicts;
 mod verifying;
 
+pub use certifying::certify_frame;
+pub use scripting::script_frame;
 pub use verdicts::FrameVerdict;
 pub use verifying::verify_frame;

@@ -5,7 +5,7 @@ ghost use Rattle.start_value.specs.Starts.{written_of};
 ghost use Rattle.frame_rounds.specs.FrameGrounds.{shown_at};
 ghost use Rattle.frame_verdict.specs.ShownEnds.{shown_of};
 
-use frame_rounds::Segments;
+use frame_start::Segments;
 use program_points::Frame;
 use question_form::Unrolled;
 use start_value::Start;

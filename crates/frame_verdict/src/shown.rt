@@ -19,7 +19,7 @@ use crate::FrameVerdict;
 use crate::framed::Framed;
 use crate::segments::{Shown, shown_of_root};
 use call_form::Budget;
-use frame_rounds::Segments;
+use frame_start::Segments;
 use machine_law::Machine;
 use program_points::Root;
 use question_form::{Asked, Unrolled};

@@ -11,7 +11,7 @@ ghost use Rattle.notes_value.specs.NoteViews.{notes_of};
 ghost use Rattle.notes_value.specs.Reads.{AreOver, AreReadable};
 ghost use Rattle.start_value.specs.Starts.{written_of};
 ghost use Rattle.table_run.specs.FrameEnds.{whole_of};
-ghost use Rattle.frame_rounds.specs.FrameRounds.{IsFrameAskable};
+ghost use Rattle.frame_start.specs.Segments.{IsFrameAskable};
 ghost use Rattle.frame_verdict.specs.FrameVerdicts.{IsFrameVerdict, evidence_of, report_of};
 ghost use Rattle.frame_verdict.specs.FrameFunctions.{CanRun, IsReady, frame_of_framed, program_of_framed};
 ghost use Rattle.frame_verdict.specs.FrameMeasures.{IsFrameUnrolledOf};

@@ -5,9 +5,9 @@ mod laws;
 mod questions;
 mod unrolled;
 
-pub use call_form::Kind;
+pub use call_form::{Asked, Kind};
 pub use known_bytes::Known;
 pub use laws::headless_values;
 pub use program_points::Frame;
-pub use questions::{Asked, Passive, Question};
+pub use questions::{Passive, Question};
 pub use unrolled::{Aim, Code, Deed, Edge, Point, Root, Unrolled};

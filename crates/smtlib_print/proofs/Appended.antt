@@ -1,12 +1,12 @@
 -- Commands that are appended one after another.
-use Rattle.std.proofs.Common.{◌≡◌, ℕ, suc, ◌+◌, ◌-◌, ◌<◌, refl, ap, sym, ◌∙◌, arith, List, [], ◌∷◌, ◌++◌, length, get_or, drop, append_assoc, add-one}
-use Rattle.std.specs.Prelude.{codes, slice_index}
+use Rattle.std.proofs.Common.{◌≡◌, ℕ, suc, ◌+◌, ◌-◌, ◌<◌, refl, ap, sym, ◌∙◌, arith, true, false, Bool, List, [], ◌∷◌, ◌++◌, length, get_or, drop, append_assoc, add-one}
+use Rattle.std.specs.Prelude.{codes, if◌then◌else◌, slice_index}
 use Rattle.std.proofs.Math.Seq.{drop-cons}
 use Rattle.bilv_spec.specs.SmtLib.{Sexp}
 use Rattle.machine_spec.specs.StateText.{Layout}
 use Rattle.term_spec.specs.Terms.{TermNode, node_at, width_of, MemoryNode}
-use Rattle.walk_spec.specs.Unrolled.{ByteRun}
-use Rattle.smtlib_print.specs.Commands.{definition, sort_of, node_term, node_definitions, declaration, declarations, assertion, byte_assertions, has_byte}
+use Rattle.walk_spec.specs.Unrolled.{AddressRun, ByteRun}
+use Rattle.smtlib_print.specs.Commands.{definition, sort_of, node_term, node_definitions, declaration, declarations, assertion, byte_assertions, has_byte, is_of_part}
 use Rattle.smtlib_print.specs.Written.{written, commands_text}
 
 -- texts of commands one behind the other
@@ -47,14 +47,26 @@ name_more sort names i w out new all l e step inv =
     rw add-one (one_command out new (undeclared sort names (suc i)) all (declaration w sort) step
     (ap (λ t. out ++ commands_text (declarations sort t)) (sym d) ∙ inv))
 
--- the bytes of a run that are left from a distance on
-abbrev pub unlisted : ByteRun → (i : ℕ) → List ℕ
-unlisted r i = commands_text (byte_assertions r i (r.count - i))
+-- the text of a command that is written or not
+abbrev pub text_if : Bool → Sexp → List ℕ
+text_if asked c = if asked then written c ++ codes "\n" else []
 
-pub byte_more : (r : ByteRun) (i : ℕ) (out new all : List ℕ) → i < r.count →
-    new ≡ out ++ (written (assertion (has_byte (r.at + i) (slice_index r.bytes i))) ++ codes "\n") →
-    out ++ unlisted r i ≡ all → new ++ unlisted r (i + 1) ≡ all
-byte_more r i out new all l step inv =
+command_if : (asked : Bool) (c : Sexp) (cs : List Sexp) → commands_text (if asked then c ∷ cs else cs) ≡ text_if asked c ++ commands_text cs
+command_if true c cs = sym (append_assoc (written c) (codes "\n") (commands_text cs))
+command_if false c cs = refl
+
+-- the bytes of a run that are left from a distance on
+abbrev pub unlisted : (part : ℕ) → (kept : List AddressRun) → ByteRun → (i : ℕ) → List ℕ
+unlisted p kept r i = commands_text (byte_assertions p kept r i (r.count - i))
+
+pub byte_more : (p : ℕ) (kept : List AddressRun) (r : ByteRun) (i : ℕ) (out new all : List ℕ) → i < r.count →
+    new ≡ out ++ text_if (is_of_part p kept (r.at + i)) (assertion (has_byte p (r.at + i) (slice_index r.bytes i))) →
+    out ++ unlisted p kept r i ≡ all → new ++ unlisted p kept r (i + 1) ≡ all
+byte_more p kept r i out new all l step inv =
     let n : r.count - i ≡ suc (r.count - suc i) = omega (arith, l) in
-    rw add-one (one_command out new (commands_text (byte_assertions r (suc i) (r.count - suc i))) all
-    (assertion (has_byte (r.at + i) (slice_index r.bytes i))) step (ap (λ k. out ++ commands_text (byte_assertions r i k)) (sym n) ∙ inv))
+    let asked = is_of_part p kept (r.at + i) in
+    let c = assertion (has_byte p (r.at + i) (slice_index r.bytes i)) in
+    let rest = byte_assertions p kept r (suc i) (r.count - suc i) in
+    rw add-one
+    (ap (λ t. t ++ commands_text rest) step ∙ append_assoc out (text_if asked c) (commands_text rest)
+    ∙ ap (λ t. out ++ t) (sym (command_if asked c rest)) ∙ ap (λ k. out ++ commands_text (byte_assertions p kept r i k)) (sym n) ∙ inv)

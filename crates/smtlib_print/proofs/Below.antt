@@ -7,11 +7,12 @@ use Rattle.std.specs.Str.{bytes_eq}
 use Rattle.std.specs.declared.cmp.Ordering.{Ordering}
 use Rattle.std.specs.declared.cmp.Ordering.TheVariants.{Less, Equal, Greater}
 use Rattle.std.proofs.lemmas.Bool.Decides.{nat_tests}
-use Rattle.std.proofs.lemmas.Cmp.{nat_list_cmp_total}
+use Rattle.std.proofs.lemmas.Cmp.{nat_list_cmp_total, tied_itself}
 use Rattle.std.proofs.lemmas.Map.Lookups.{exact_bytes}
-use Rattle.bilv_spec.specs.Points.{Point}
-use Rattle.bilv_spec.specs.Scripts.{is_below_from_end, is_point_below, is_stack_below}
-use Rattle.smtlib_print.specs.Orders.{from_bottom, point_key, point_order}
+use Rattle.bilv_spec.specs.Scripts.{is_below_from_end, is_stack_below}
+use Rattle.frame_spec.specs.FramePoints.{Anchor, AtEntry, AtHead, Point}
+use Rattle.frame_spec.specs.FrameScripts.{is_anchor_below, is_frame_point_below, is_same_anchor}
+use Rattle.smtlib_print.specs.Orders.{anchor_key, from_bottom, point_key, point_order, spot_key, spot_order}
 
 -- numbers in order, the first ones deciding
 first_decides : (a b : ℕ) (o : Ordering) → is_lt (ordering_then (nat_cmp a b) o) ≡ (nat_lt a b || ((a == b) && is_lt o))
@@ -52,36 +53,71 @@ unequal_length (a ∷ s) (b ∷ t) h =
     none true = refl
     none false = refl
 
-single : (a b : ℕ) → is_lt (slice_cmp nat_cmp (a ∷ []) (b ∷ [])) ≡ nat_lt a b
-single a b = first_decides a b Equal ∙ plain (nat_lt a b) (a == b)
+-- one decides, or two are the same and another decides
+abbrev Decides : (o below same next : Bool) → Type 0
+Decides o below same next = o ≡ (below || (same && next))
+
+-- stacks with an address each
+abbrev spot_below : (s : List ℕ) → (a : ℕ) → (t : List ℕ) → (b : ℕ) → Bool
+spot_below s a t b = is_stack_below s t || (bytes_eq s t && nat_lt a b)
+
+abbrev same_spot : (s : List ℕ) → (a : ℕ) → (t : List ℕ) → (b : ℕ) → Bool
+same_spot s a t b = bytes_eq s t && (a == b)
+
+equal_by : (p q x n z : Bool) → (p || (q && (x || (n && z)))) ≡ ((p || (q && x)) || ((q && n) && z))
+equal_by true q x n z = refl
+equal_by false true x n z = refl
+equal_by false false x n z = refl
+
+or_nothing : (l : Bool) → (l || false) ≡ ((l || false) || false)
+or_nothing true = refl
+or_nothing false = refl
+
+spot_decides_by : (s : List ℕ) (a : ℕ) (t : List ℕ) (b : ℕ) (u v : List ℕ) (same : Bool) → (length s == length t) ≡ same →
+    Decides (is_lt (slice_cmp nat_cmp (spot_key s a u) (spot_key t b v))) (spot_below s a t b) (same_spot s a t b) (is_lt (slice_cmp nat_cmp u v))
+spot_decides_by s a t b u v true h =
+    let e : length s ≡ length t = grind (arith, nat_tests) in
+    let l : nat_lt (length s) (length t) ≡ false = grind (arith, nat_tests) in
+    first_decides (length s) (length t) _
+    ∙ rw (h, l) (from_bottom_decides s t (a ∷ u) (b ∷ v) e
+    ∙ ap (λ z. is_below_from_end s t || (bytes_eq s t && z)) (first_decides a b (slice_cmp nat_cmp u v))
+    ∙ equal_by (is_below_from_end s t) (bytes_eq s t) (nat_lt a b) (a == b) (is_lt (slice_cmp nat_cmp u v)))
+spot_decides_by s a t b u v false h =
+    first_decides (length s) (length t) _ ∙ rw (h, unequal_length s t h) (or_nothing (nat_lt (length s) (length t)) ∙ plain (nat_lt (length s) (length t)))
   where
-    plain : (p q : Bool) → (p || (q && false)) ≡ p
-    plain true q = refl
-    plain false true = refl
-    plain false false = refl
+    plain : (p : Bool) → ((p || false) || false) ≡ (((p || false) || false) || false)
+    plain true = refl
+    plain false = refl
+
+spot_decides : (s : List ℕ) (a : ℕ) (t : List ℕ) (b : ℕ) (u v : List ℕ) →
+    Decides (is_lt (slice_cmp nat_cmp (spot_key s a u) (spot_key t b v))) (spot_below s a t b) (same_spot s a t b) (is_lt (slice_cmp nat_cmp u v))
+spot_decides s a t b u v = spot_decides_by s a t b u v (length s == length t) refl
+
+-- anchors
+anchor_decides : (x y : Anchor) (u v : List ℕ) →
+    Decides (is_lt (slice_cmp nat_cmp (anchor_key x u) (anchor_key y v))) (is_anchor_below x y) (is_same_anchor x y) (is_lt (slice_cmp nat_cmp u v))
+anchor_decides AtEntry AtEntry u v = refl
+anchor_decides AtEntry (AtHead t b) u v = refl
+anchor_decides (AtHead s a) AtEntry u v = refl
+anchor_decides (AtHead s a) (AtHead t b) u v = spot_decides s a t b u v
+
+and_nothing : (p q : Bool) → (p || (q && false)) ≡ p
+and_nothing true q = refl
+and_nothing false true = refl
+and_nothing false false = refl
 
 -- the order of scripts is that of keys
-module _ (x y : Point) where
-  behind : (same : Bool) → (length x.stack == length y.stack) ≡ same →
-      (nat_lt (length x.stack) (length y.stack)
-      || ((length x.stack == length y.stack) && is_lt (slice_cmp nat_cmp (from_bottom x.stack (x.at ∷ [])) (from_bottom y.stack (y.at ∷ [])))))
-      ≡ (is_stack_below x.stack y.stack || (bytes_eq x.stack y.stack && nat_lt x.at y.at))
-  behind true h =
-      let e : length x.stack ≡ length y.stack = grind (arith, nat_tests) in
-      let l : nat_lt (length x.stack) (length y.stack) ≡ false = grind (arith, nat_tests) in
-      let q = from_bottom_decides x.stack y.stack (x.at ∷ []) (y.at ∷ []) e in
-      rw (h, l, q, single x.at y.at) refl
-  behind false h = rw (h, unequal_length x.stack y.stack h) (plain (nat_lt (length x.stack) (length y.stack)))
-    where
-      plain : (p : Bool) → (p || false) ≡ ((p || false) || false)
-      plain true = refl
-      plain false = refl
+pub order_is : (x y : Point) → is_lt (point_order x y) ≡ is_frame_point_below x y
+order_is x y =
+    anchor_decides x.anchor y.anchor (x.turns ∷ spot_key x.stack x.at []) (y.turns ∷ spot_key y.stack y.at [])
+    ∙ ap (λ z. is_anchor_below x.anchor y.anchor || (is_same_anchor x.anchor y.anchor && z))
+    (first_decides x.turns y.turns (spot_order x.stack x.at y.stack y.at)
+    ∙ ap (λ z. nat_lt x.turns y.turns || ((x.turns == y.turns) && z))
+    (spot_decides x.stack x.at y.stack y.at [] [] ∙ and_nothing (spot_below x.stack x.at y.stack y.at) (same_spot x.stack x.at y.stack y.at)))
 
-  pub order_is : is_lt (point_order x y) ≡ is_point_below x y
-  order_is =
-      first_decides x.turns y.turns _
-      ∙ ap (λ z. nat_lt x.turns y.turns || ((x.turns == y.turns) && z)) (first_decides (length x.stack) (length y.stack) _
-      ∙ behind (length x.stack == length y.stack) refl)
+-- no point is below itself
+pub frame_point_itself : (q : Point) → is_frame_point_below q q ≡ false
+frame_point_itself q = sym (order_is q q) ∙ ap is_lt (tied_itself nat_list_cmp_total (point_key q))
 
 -- points with one key are one
 heads : (a b : ℕ) (s t : List ℕ) → a ∷ s ≡ b ∷ t → (a ≡ b) × (s ≡ t)
@@ -96,23 +132,39 @@ bottom_same (a ∷ s) (b ∷ t) u v h e =
     let r = heads a b u v q.1 in
     (let z : a ∷ s ≡ b ∷ s = ap (λ c. c ∷ s) r.0 in z ∙ ap (λ c. b ∷ c) q.0, r.1)
 
-point_same : (x y : Point) → x.turns ≡ y.turns → x.stack ≡ y.stack → x.at ≡ y.at → x ≡ y
-point_same x y a b c = ap (λ t. record { turns = t; stack = x.stack; at = x.at }) a ∙ ap (λ s. record { turns = y.turns; stack = s; at = x.at }) b
-    ∙ ap (λ z. record { turns = y.turns; stack = y.stack; at = z }) c
+spots_same : (s : List ℕ) (a : ℕ) (t : List ℕ) (b : ℕ) (u v : List ℕ) → spot_key s a u ≡ spot_key t b v → (s ≡ t) × (a ≡ b) × (u ≡ v)
+spots_same s a t b u v e =
+    let h = heads (length s) (length t) (from_bottom s (a ∷ u)) (from_bottom t (b ∷ v)) e in
+    let c = bottom_same s t (a ∷ u) (b ∷ v) h.0 h.1 in
+    let d = heads a b u v c.1 in (c.0, d.0, d.1)
 
-keys_same : (x y : Point) → point_key x ≡ point_key y → x ≡ y
-keys_same x y e =
-    let a = heads x.turns y.turns (length x.stack ∷ from_bottom x.stack (x.at ∷ [])) (length y.stack ∷ from_bottom y.stack (y.at ∷ [])) e in
-    let b = heads (length x.stack) (length y.stack) (from_bottom x.stack (x.at ∷ [])) (from_bottom y.stack (y.at ∷ [])) a.1 in
-    let c = bottom_same x.stack y.stack (x.at ∷ []) (y.at ∷ []) b.0 b.1 in
-    point_same x y a.0 c.0 (heads x.at y.at [] [] c.1).0
+anchors_same : (x y : Anchor) (u v : List ℕ) → anchor_key x u ≡ anchor_key y v → (x ≡ y) × (u ≡ v)
+anchors_same AtEntry AtEntry u v e = (refl, (heads 0 0 u v e).1)
+anchors_same AtEntry (AtHead t b) u v e = absurd (let z : 0 ≡ 1 = (heads 0 1 u (spot_key t b v) e).0 in omega arith)
+anchors_same (AtHead s a) AtEntry u v e = absurd (let z : 1 ≡ 0 = (heads 1 0 (spot_key s a u) v e).0 in omega arith)
+anchors_same (AtHead s a) (AtHead t b) u v e =
+    let q = spots_same s a t b u v (heads 1 1 (spot_key s a u) (spot_key t b v) e).1 in
+    (ap (λ z. AtHead z a) q.0 ∙ ap (λ z. AtHead t z) q.1, q.2)
+
+-- the point of its parts
+abbrev made : Anchor → (turns : ℕ) → Bool → (stack : List ℕ) → (at : ℕ) → Point
+made anchor turns contract stack at = record { anchor = anchor; turns = turns; contract = contract; stack = stack; at = at }
+
+keys_same : (x y : Point) → x.contract ≡ y.contract → point_key x ≡ point_key y → x ≡ y
+keys_same x y c e =
+    let q = anchors_same x.anchor y.anchor (x.turns ∷ spot_key x.stack x.at []) (y.turns ∷ spot_key y.stack y.at []) e in
+    let t = heads x.turns y.turns (spot_key x.stack x.at []) (spot_key y.stack y.at []) q.1 in
+    let p = spots_same x.stack x.at y.stack y.at [] [] t.1 in
+    ap (λ z. made z x.turns x.contract x.stack x.at) q.0 ∙ ap (λ z. made y.anchor z x.contract x.stack x.at) t.0
+    ∙ ap (λ z. made y.anchor y.turns z x.stack x.at) c ∙ ap (λ z. made y.anchor y.turns y.contract z x.at) p.0
+    ∙ ap (λ z. made y.anchor y.turns y.contract y.stack z) p.1
 
 -- a point that is not above another one, and is not that one, is below it
-pub below_by_order : (x y : Point) → is_lt (point_order y x) ≡ false → (x ≡ y → ⊥) → is_point_below x y ≡ true
-below_by_order x y h other = by (point_order x y) refl
+pub below_by_order : (x y : Point) → x.contract ≡ y.contract → is_lt (point_order y x) ≡ false → (x ≡ y → ⊥) → is_frame_point_below x y ≡ true
+below_by_order x y c h other = by (point_order x y) refl
   where
-    by : (o : Ordering) → point_order x y ≡ o → is_point_below x y ≡ true
+    by : (o : Ordering) → point_order x y ≡ o → is_frame_point_below x y ≡ true
     by Less e = sym (order_is x y) ∙ ap is_lt e
-    by Equal e = absurd (other (keys_same x y (exact_bytes (point_key x) (point_key y) e)))
+    by Equal e = absurd (other (keys_same x y c (exact_bytes (point_key x) (point_key y) e)))
     by Greater e = absurd (let t : true ≡ false = sym (ap (λ o. is_lt (ordering_reverse o)) e)
         ∙ sym (ap is_lt (nat_list_cmp_total.antisymm (point_key y) (point_key x))) ∙ h in cc)

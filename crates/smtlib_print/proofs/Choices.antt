@@ -7,8 +7,11 @@ use Rattle.bilv_spec.specs.Scripts.{choice_name}
 use Rattle.word_spec.specs.Texts.{number_text}
 use Rattle.question_form.specs.declared.unrolled.Point.{Point}
 use Rattle.question_form.specs.declared.unrolled.Unrolled.{Unrolled}
-use Rattle.question_form.specs.Views.{no_code, points_of}
+use Rattle.question_form.specs.FrameViews as views
+use Rattle.question_form.specs.FrameViews.{frame_unrolled_of}
+use Rattle.question_form.specs.Views.{code_of, no_code, points_of, unrolled_of}
 use Rattle.smtlib_print.specs.Commands.{declaration, declarations, drawn, word_sort}
+use Rattle.smtlib_print.specs.Scripted.{draws_of}
 use Rattle.smtlib_print.specs.Written.{written, commands_text}
 use Rattle.smtlib_print.proofs.Printed.{ended}
 
@@ -59,14 +62,29 @@ choice_added n = ended (codes "(declare-const c") (number_text n) (codes " (_ Bi
 -- whether a point draws
 pub point_draws : (u : Unrolled) (qs : List Point) (i : ℕ) (d : Point) (b : Bool) → i < length qs → d ≡ get_or qs i d →
     b ≡ (slice_index_or u.codes.items d.code no_code).draws →
-    b ≡ get_or (map (λ q. q.draws) (points_of u qs)) i false
+    b ≡ get_or (map (λ q. (code_of u q).draws) qs) i false
 point_draws u [] i d b l e f = absurd (omega (arith, l))
 point_draws u (q ∷ qs) zero d b l e f = f ∙ ap (λ (x : Point). (slice_index_or u.codes.items x.code no_code).draws) e
 point_draws u (q ∷ qs) (suc i) d b l e f = point_draws u qs i d b (omega (arith, l)) e f
 
-pub draws_count : (u : Unrolled) (qs : List Point) → length (map (λ q. q.draws) (points_of u qs)) ≡ length qs
+pub draws_count : (u : Unrolled) (qs : List Point) → length (map (λ q. (code_of u q).draws) qs) ≡ length qs
 draws_count u [] = refl
 draws_count u (q ∷ qs) = ap suc (draws_count u qs)
+
+-- so do the points of the unrolled program and of the unrolled frame
+draws_are : (u : Unrolled) (qs : List Point) → map (λ q. q.draws) (points_of u qs) ≡ map (λ q. (code_of u q).draws) qs
+draws_are u [] = refl
+draws_are u (q ∷ qs) = ap (λ l. (code_of u q).draws ∷ l) (draws_are u qs)
+
+pub program_draws : (u : Unrolled) → map (λ q. q.draws) (unrolled_of u).points ≡ draws_of u
+program_draws u = draws_are u u.points.items
+
+frame_draws_are : (u : Unrolled) (qs : List Point) → map (λ q. q.draws) (views.points_of u qs) ≡ map (λ q. (code_of u q).draws) qs
+frame_draws_are u [] = refl
+frame_draws_are u (q ∷ qs) = ap (λ l. (code_of u q).draws ∷ l) (frame_draws_are u qs)
+
+pub frame_draws : (u : Unrolled) → map (λ q. q.draws) (frame_unrolled_of u).points ≡ draws_of u
+frame_draws u = frame_draws_are u u.points.items
 
 pub points_count : (u : Unrolled) (qs : List Point) → length (points_of u qs) ≡ length qs
 points_count u [] = refl

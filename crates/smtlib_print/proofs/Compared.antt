@@ -6,8 +6,8 @@ use Rattle.std.specs.declared.cmp.Ordering.{Ordering}
 use Rattle.std.specs.declared.cmp.Ordering.TheVariants.{Less, Equal, Greater}
 use Rattle.std.proofs.lemmas.Bool.Decides.{nat_tests}
 use Rattle.std.proofs.lemmas.Cmp.{nat_list_cmp_total, tied_itself}
-use Rattle.bilv_spec.specs.Points.{Point}
-use Rattle.smtlib_print.specs.Orders.{counts_order, from_bottom, point_order, stack_order}
+use Rattle.frame_spec.specs.FramePoints.{Anchor, AtEntry, AtHead, Point}
+use Rattle.smtlib_print.specs.Orders.{anchor_key, anchor_order, from_bottom, point_order, spot_key, spot_order, stack_order}
 
 then_equal : (x : Ordering) → ordering_then x Equal ≡ x
 then_equal Less = refl
@@ -43,28 +43,84 @@ tops_then s t a b o h =
     ∙ then_then (stack_order s t) (ordering_then (nat_cmp a b) Equal) o
     ∙ ap (λ x. ordering_then (stack_order s t) (ordering_then x o)) (then_equal (nat_cmp a b))
 
-compared_by : (x y : Point) (o : Ordering) → counts_order x y ≡ o →
-    point_order x y ≡ ordering_then o (slice_cmp nat_cmp (from_bottom x.stack (x.at ∷ [])) (from_bottom y.stack (y.at ∷ [])))
-compared_by x y o e =
-    sym (then_then (nat_cmp x.turns y.turns) (nat_cmp (length x.stack) (length y.stack)) _)
-    ∙ ap (λ z. ordering_then z (slice_cmp nat_cmp (from_bottom x.stack (x.at ∷ [])) (from_bottom y.stack (y.at ∷ [])))) e
+-- two stacks with an address each are compared first, and then what follows
+spot_by : (s : List ℕ) (a : ℕ) (t : List ℕ) (b : ℕ) (u v : List ℕ) (o : Ordering) → nat_cmp (length s) (length t) ≡ o →
+    slice_cmp nat_cmp (spot_key s a u) (spot_key t b v) ≡ ordering_then (spot_order s a t b) (slice_cmp nat_cmp u v)
+spot_by s a t b u v Less e = rw e refl
+spot_by s a t b u v Greater e = rw e refl
+spot_by s a t b u v Equal e =
+    let same : length s ≡ length t = grind (arith, nat_tests) in
+    rw e
+    (bottom_then s t (a ∷ u) (b ∷ v) same
+    ∙ ap (λ x. ordering_then (stack_order s t) (ordering_then x (slice_cmp nat_cmp u v))) (sym (then_equal (nat_cmp a b)))
+    ∙ sym (then_then (stack_order s t) (ordering_then (nat_cmp a b) Equal) (slice_cmp nat_cmp u v))
+    ∙ ap (λ x. ordering_then x (slice_cmp nat_cmp u v)) (sym (bottom_then s t (a ∷ []) (b ∷ []) same)))
 
-both_equal : (a b : Ordering) → ordering_then a b ≡ Equal → b ≡ Equal
-both_equal Less b e = absurd (cc)
-both_equal Equal b e = e
-both_equal Greater b e = absurd (cc)
+pub spot_then : (s : List ℕ) (a : ℕ) (t : List ℕ) (b : ℕ) (u v : List ℕ) →
+    slice_cmp nat_cmp (spot_key s a u) (spot_key t b v) ≡ ordering_then (spot_order s a t b) (slice_cmp nat_cmp u v)
+spot_then s a t b u v = spot_by s a t b u v (nat_cmp (length s) (length t)) refl
 
-pub counts_equal : (x y : Point) → counts_order x y ≡ Equal → length x.stack ≡ length y.stack
-counts_equal x y e =
-    let q = both_equal (nat_cmp x.turns y.turns) (nat_cmp (length x.stack) (length y.stack)) e in
-    grind (arith, nat_tests)
+-- so are anchors
+pub anchor_then : (x y : Anchor) (u v : List ℕ) →
+    slice_cmp nat_cmp (anchor_key x u) (anchor_key y v) ≡ ordering_then (anchor_order x y) (slice_cmp nat_cmp u v)
+anchor_then AtEntry AtEntry u v = refl
+anchor_then AtEntry (AtHead t b) u v = refl
+anchor_then (AtHead s a) AtEntry u v = refl
+anchor_then (AtHead s a) (AtHead t b) u v = spot_then s a t b u v
 
--- they are the same
-pub stacks_decide : (x y : Point) → counts_order x y ≡ Equal →
-    ordering_then (stack_order x.stack y.stack) (nat_cmp x.at y.at) ≡ point_order x y
-stacks_decide x y e =
-    ap (λ z. ordering_then (stack_order x.stack y.stack) z) (sym (then_equal (nat_cmp x.at y.at)))
-    ∙ sym (bottom_then x.stack y.stack (x.at ∷ []) (y.at ∷ []) (counts_equal x y e)) ∙ sym (compared_by x y Equal e)
+-- and points by their anchors, then by their backward transfers, and then by where they stand
+pub points_then : (x y : Point) →
+    point_order x y ≡ ordering_then (ordering_then (anchor_order x.anchor y.anchor) (nat_cmp x.turns y.turns)) (spot_order x.stack x.at y.stack y.at)
+points_then x y =
+    anchor_then x.anchor y.anchor (x.turns ∷ spot_key x.stack x.at []) (y.turns ∷ spot_key y.stack y.at [])
+    ∙ sym (then_then (anchor_order x.anchor y.anchor) (nat_cmp x.turns y.turns) (spot_order x.stack x.at y.stack y.at))
+
+-- where stacks have as many addresses, they and the addresses decide
+pub stacks_decide : (s : List ℕ) (a : ℕ) (t : List ℕ) (b : ℕ) → nat_cmp (length s) (length t) ≡ Equal →
+    ordering_then (stack_order s t) (nat_cmp a b) ≡ spot_order s a t b
+stacks_decide s a t b e =
+    let same : length s ≡ length t = grind (arith, nat_tests) in
+    rw e
+    (ap (λ z. ordering_then (stack_order s t) z) (sym (then_equal (nat_cmp a b))) ∙ sym (bottom_then s t (a ∷ []) (b ∷ []) same))
+
+-- the depths of stacks are compared as their lengths
+pub depths_compared : (m n x y : ℕ) → m ≡ x → n ≡ y → nat_cmp m n ≡ nat_cmp x y
+depths_compared m n x y e f = ap (λ z. nat_cmp z n) e ∙ ap (nat_cmp x) f
+
+-- and else their lengths do
+pub lengths_decide : (s : List ℕ) (a : ℕ) (t : List ℕ) (b : ℕ) (o : Ordering) → nat_cmp (length s) (length t) ≡ o → (o ≡ Equal → ⊥) → o ≡ spot_order s a t b
+lengths_decide s a t b Less e other = rw e refl
+lengths_decide s a t b Equal e other = absurd (other refl)
+lengths_decide s a t b Greater e other = rw e refl
+
+-- the order of anchors and then of backward transfers
+both_orders : (x y : Point) (o anchors turns : Ordering) → o ≡ ordering_then anchors turns → anchors ≡ anchor_order x.anchor y.anchor →
+    turns ≡ nat_cmp x.turns y.turns → o ≡ ordering_then (anchor_order x.anchor y.anchor) (nat_cmp x.turns y.turns)
+both_orders x y o anchors turns e f g =
+    e ∙ ap (λ z. ordering_then z turns) f ∙ ap (λ z. ordering_then (anchor_order x.anchor y.anchor) z) g
+
+-- where neither anchors nor backward transfers decide, what follows does
+pub points_decide : (x y : Point) (o anchors turns spot : Ordering) → o ≡ ordering_then anchors turns → anchors ≡ anchor_order x.anchor y.anchor →
+    turns ≡ nat_cmp x.turns y.turns → o ≡ Equal → spot ≡ spot_order x.stack x.at y.stack y.at → spot ≡ point_order x y
+points_decide x y o anchors turns spot e f g is h =
+    h ∙ sym (points_then x y ∙ ap (λ z. ordering_then z (spot_order x.stack x.at y.stack y.at)) (sym (both_orders x y o anchors turns e f g) ∙ is))
+
+decided : (o all : Ordering) → (o ≡ Equal → ⊥) → o ≡ ordering_then o all
+decided Less all other = refl
+decided Equal all other = absurd (other refl)
+decided Greater all other = refl
+
+-- and else they do
+pub points_settle : (x y : Point) (o anchors turns : Ordering) → o ≡ ordering_then anchors turns → anchors ≡ anchor_order x.anchor y.anchor →
+    turns ≡ nat_cmp x.turns y.turns → (o ≡ Equal → ⊥) → o ≡ point_order x y
+points_settle x y o anchors turns e f g other =
+    decided o (spot_order x.stack x.at y.stack y.at) other
+    ∙ ap (λ z. ordering_then z (spot_order x.stack x.at y.stack y.at)) (both_orders x y o anchors turns e f g) ∙ sym (points_then x y)
+
+-- stacks and addresses, each as another
+pub spots_are : (s s' : List ℕ) (a a' : ℕ) (t t' : List ℕ) (b b' : ℕ) → s ≡ s' → a ≡ a' → t ≡ t' → b ≡ b' → spot_order s a t b ≡ spot_order s' a' t' b'
+spots_are s s' a a' t t' b b' e f g h =
+    ap (λ z. spot_order z a t b) e ∙ ap (λ z. spot_order s' z t b) f ∙ ap (λ z. spot_order s' a' z b) g ∙ ap (λ z. spot_order s' a' t' z) h
 
 pub then_nothing : (x : Ordering) → ordering_then x Equal ≡ x
 then_nothing x = then_equal x

@@ -1,5 +1,5 @@
 -- Declarations one after another: each name gets the model's value.
-use Rattle.std.proofs.Common.{◌≡◌, ℕ, refl, ap, sym, ◌∙◌, true, false, Bool, List, [], ◌∷◌, Option, Some, None}
+use Rattle.std.proofs.Common.{◌≡◌, ℕ, refl, ap, sym, ◌∙◌, subst, true, false, Bool, List, [], ◌∷◌, ◌++◌, Option, Some, None}
 use Rattle.std.specs.Prelude.{◌&&◌, ◌||◌, not, if◌then◌else◌}
 use Rattle.std.specs.Str.{bytes_eq}
 use Rattle.bilv_spec.specs.SmtLib.{Sexp, Cons, SmtValue, binds, is_of_sort, truth_of}
@@ -56,6 +56,10 @@ declared_on : (model symbols : List ℕ → Option SmtValue) (done : List (List 
     AreDeclared model (binds symbols w v) (w ∷ done)
 declared_on model symbols done w v h d u = declared_by (bytes_eq u w) model symbols done w u v refl h (d u)
 
+pub before-append : (cs ds : List Sexp) (rest : Sexp) → before (cs ++ ds) rest ≡ before cs (before ds rest)
+before-append [] ds rest = refl
+before-append (c ∷ cs) ds rest = ap (Cons c) (before-append cs ds rest)
+
 -- what the symbols have behind declarations
 pub record IsDeclaring (model symbols : List ℕ → Option SmtValue) (done : List (List ℕ)) (commands : List Sexp) : Type 0 where
   pub after : List ℕ → Option SmtValue
@@ -78,6 +82,36 @@ declare_all model sort (w ∷ ws) done symbols sorted new d =
           (d w ∙ ap (λ b. if b then model w else None) (is_false (among done w) n.0)) s.is s.sort_is
           ∙ next.runs rest;
     }
+
+-- declarations after others
+pub declare_both : (model symbols : List ℕ → Option SmtValue) (done then_done : List (List ℕ)) (cs ds : List Sexp) →
+    (first : IsDeclaring model symbols done cs) → IsDeclaring model first.after then_done ds → IsDeclaring model symbols then_done (cs ++ ds)
+declare_both model symbols done then_done cs ds first last = record {
+  after = last.after;
+  declared = last.declared;
+  runs = λ rest. ap (truth_of model symbols) (before-append cs ds rest) ∙ first.runs (before ds rest) ∙ last.runs rest;
+}
+
+pub declared_as : (model symbols : List ℕ → Option SmtValue) (done names : List (List ℕ)) (cs : List Sexp) → done ≡ names →
+    IsDeclaring model symbols done cs → IsDeclaring model symbols names cs
+declared_as model symbols done names cs e d = subst (λ (l : List (List ℕ)). IsDeclaring model symbols l cs) e d
+
+-- names in two parts
+pub onto-append : (done v w : List (List ℕ)) → onto done (v ++ w) ≡ onto (onto done v) w
+onto-append done [] w = refl
+onto-append done (n ∷ v) w = onto-append (n ∷ done) v w
+
+and_assoc : (a b c : Bool) → ((a && b) && c) ≡ (a && (b && c))
+and_assoc true b c = refl
+and_assoc false b c = refl
+
+new-append : (done v w : List (List ℕ)) → are_new done (v ++ w) ≡ (are_new done v && are_new (onto done v) w)
+new-append done [] w = refl
+new-append done (n ∷ v) w =
+    ap (λ b. not (among done n) && b) (new-append (n ∷ done) v w) ∙ sym (and_assoc (not (among done n)) (are_new (n ∷ done) v) (are_new (onto (n ∷ done) v) w))
+
+pub new_both : (done v w : List (List ℕ)) → are_new done (v ++ w) ≡ true → (are_new done v ≡ true) × (are_new (onto done v) w ≡ true)
+new_both done v w h = both_true (are_new done v) (are_new (onto done v) w) (sym (new-append done v w) ∙ h)
 
 -- what is among names that are declared behind others
 pub onto_done : (done names : List (List ℕ)) (w : List ℕ) → among done w ≡ true → among (onto done names) w ≡ true

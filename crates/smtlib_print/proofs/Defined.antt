@@ -1,6 +1,6 @@
 -- The commands of a script one after another: definitions of terms, of the bytes of the file, and the assertion.
 use Rattle.std.proofs.Common.{◌≡◌, ℕ, zero, suc, ◌+◌, ◌-◌, ◌^◌, ◌<◌, ◌≤◌, refl, ap, sym, ◌∙◌, subst, arith, true, false, Bool, List, [], ◌∷◌, ◌++◌, Option, Some, None, length, append_assoc, append-nil, inl, inr}
-use Rattle.std.specs.Prelude.{nat_lt, codes, slice_index, slice_index_or}
+use Rattle.std.specs.Prelude.{nat_lt, slice_index, slice_index_or}
 use Rattle.std.specs.List.{list_any}
 use Rattle.std.specs.Str.{bytes_eq}
 use Rattle.std.proofs.lemmas.Bool.{cases_lt}
@@ -14,7 +14,7 @@ use Rattle.term_spec.specs.Terms.{TermReading, InRange, TermValue, TermNode, wor
 use Rattle.term_dag.proofs.ListLaws.{keeps, keeps_node, last, longer, length_values, values_append, typed_push}
 use Rattle.term_dag.proofs.Ranges.{term_fits}
 use Rattle.term_dag.proofs.Shapes.{few_bits}
-use Rattle.smtlib_print.specs.Commands.{term_name, definition, sort_of, node_term, node_definitions}
+use Rattle.smtlib_print.specs.Commands.{memory_name, part_name, term_name, definition, sort_of, node_term, node_definitions}
 use Rattle.smtlib_print.specs.Written.{before}
 use Rattle.smtlib_print.proofs.Names.{is_symbol, other_term, symbol_value}
 use Rattle.smtlib_print.proofs.NodeValues.{IsValue, Knows, HasInput, says}
@@ -108,15 +108,15 @@ pub record IsNamed (model : List ℕ → Option SmtValue) (names : List (List �
   pub symbol : is_symbol w ≡ true
   pub value : model w ≡ Some v
 
--- an input has a name with its value; the memory is that of part 0
+-- an input has a name with its value
 abbrev pub IsInputOf : (model : List ℕ → Option SmtValue) → (names : List (List ℕ)) → Layout → (numbers : List ℕ) → TermReading → TermNode → Type 0
 IsInputOf model names layout numbers x (terms.RegisterNode p r) =
-    IsNamed model names (slice_index_or layout.registers (r - layout.first) []) (WordValue 32 (x.regs p r))
+    IsNamed model names (part_name p (slice_index_or layout.registers (r - layout.first) [])) (WordValue 32 (x.regs p r))
 IsInputOf model names layout numbers x (terms.FlagNode p f) =
-    IsNamed model names (slice_index_or layout.flags (length layout.flags - 1 - f) []) (WordValue 1 (x.flags p f))
+    IsNamed model names (part_name p (slice_index_or layout.flags (length layout.flags - 1 - f) [])) (WordValue 1 (x.flags p f))
 IsInputOf model names layout numbers x (terms.ChoiceNode i) = IsNamed model names (choice_name (slice_index numbers i)) (WordValue 2 (x.choice i))
 IsInputOf model names layout numbers x (terms.BaseNode p j) = x.base p j ≡ 0
-IsInputOf model names layout numbers x (terms.MemoryNode p) = p ≡ 0
+IsInputOf model names layout numbers x (terms.MemoryNode p) = IsNamed model names (memory_name p) (ArrayValue (x.mem p))
 IsInputOf model names layout numbers x (terms.TakeNode n m a p) = ⊥
 IsInputOf model names layout numbers x n = Unit {0}
 
@@ -139,16 +139,14 @@ pub record Reached (model symbols : List ℕ → Option SmtValue) (names : List 
   pub runs : (rest : Sexp) → truth_of model symbols (before commands rest) ≡ truth_of model after rest
 
 module _ (model : List ℕ → Option SmtValue) (names : List (List ℕ)) (layout : Layout) (numbers : List ℕ) (x : TermReading) (range : InRange x)
-    (apart : Apart names)
-    (memory : IsNamed model names (codes "mem") (ArrayValue (x.mem 0))) where
+    (apart : Apart names) where
   has_input : (symbols : List ℕ → Option SmtValue) (upto : ℕ) (n : TermNode) → Stands model symbols names upto → IsInputOf model names layout numbers x n →
       HasInput symbols layout numbers x n
   has_input symbols upto (terms.RegisterNode p r) s i = named_value model symbols names upto _ _ s i
   has_input symbols upto (terms.FlagNode p f) s i = named_value model symbols names upto _ _ s i
   has_input symbols upto (terms.ChoiceNode j) s i = named_value model symbols names upto _ _ s i
   has_input symbols upto (terms.BaseNode p j) s i = i
-  has_input symbols upto (terms.MemoryNode p) s i =
-      named_value model symbols names upto _ _ s memory ∙ ap (λ q. Some (ArrayValue (x.mem q))) (sym i)
+  has_input symbols upto (terms.MemoryNode p) s i = named_value model symbols names upto _ _ s i
   has_input symbols upto (terms.ConstantNode w v) s i = tt
   has_input symbols upto (terms.BinaryNode o w a b) s i = tt
   has_input symbols upto (terms.NotNode w a) s i = tt

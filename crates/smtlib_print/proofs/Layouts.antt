@@ -1,9 +1,12 @@
 -- The names of registers, flags, the memory and choices, and their values under a reading.
-use Rattle.std.proofs.Common.{◌≡◌, ℕ, zero, suc, ◌+◌, ◌<◌, refl, ap, sym, ◌∙◌, arith, true, false, Bool, List, [], ◌∷◌, Some, None, length}
+use Rattle.std.proofs.Common.{◌≡◌, ℕ, zero, suc, ◌+◌, ◌<◌, refl, ap, sym, ◌∙◌, arith, true, false, Bool, List, [], ◌∷◌, ◌++◌, Some, None, length}
 use Rattle.std.specs.Prelude.{◌==◌, ◌&&◌, ◌||◌, not, codes, if◌then◌else◌, slice_index_or}
 use Rattle.std.specs.List.{list_all}
 use Rattle.std.specs.Option.{option_map}
 use Rattle.std.specs.Str.{bytes_eq}
+use Rattle.std.proofs.lemmas.List.{get_or-map, length-map}
+use Rattle.std.proofs.lemmas.List.Folds.{list_all-append}
+use Rattle.frame_spec.specs.FrameScripts.{of_head}
 use Rattle.word_spec.specs.Memory.{Endian, endian}
 use Rattle.word_spec.specs.Profiles.{Profile}
 use Rattle.machine_spec.specs.StateText.{Layout, value_names, place_in, rv_layout, arm_layout}
@@ -12,7 +15,8 @@ use Rattle.std.specs.Fmt.{digits}
 use Rattle.start_value.specs.declared.layout.Layout as forms
 use Rattle.start_value.specs.declared.layout.Layout.TheVariants.{Rv32, Arm}
 use Rattle.start_value.specs.Starts.{layout_of, profile_in}
-use Rattle.smtlib_print.proofs.Declared.{onto, are_new, both_true, is_false}
+use Rattle.smtlib_print.specs.Commands.{memory_name, part_name, part_names}
+use Rattle.smtlib_print.proofs.Declared.{are_new, both_true, is_false}
 use Rattle.smtlib_print.proofs.Defined.{among}
 use Rattle.smtlib_print.proofs.Names.{is_symbol, other_text}
 use Rattle.smtlib_print.proofs.ReadBack.{is_word}
@@ -31,20 +35,63 @@ abbrev pub are_distinct : List (List ℕ) → Bool
 are_distinct [] = true
 are_distinct (n ∷ ns) = not (among ns n) && are_distinct ns
 
+-- the first letter is that of the names of the head state
+abbrev pub is_headed : List ℕ → Bool
+is_headed [] = false
+is_headed (b ∷ w) = b == 104
+
+-- a name that can be a symbol beside those of terms and choices
+abbrev pub is_fixed : List ℕ → Bool
+is_fixed w = is_symbol w && (is_word w && not (is_lettered w))
+
+-- the symbols of what a part has
+abbrev pub part_symbols : Layout → (part : ℕ) → List (List ℕ)
+part_symbols layout p = part_names p layout.registers ++ (part_names p layout.flags ++ (memory_name p ∷ []))
+
+-- the symbols of what the head has, where there is one
+abbrev pub head_parts : Layout → (heads : Bool) → List (List ℕ)
+head_parts layout false = []
+head_parts layout true = part_symbols layout 1
+
+-- the symbols of both
+abbrev pub fixed_names : Layout → (heads : Bool) → List (List ℕ)
+fixed_names layout heads = part_symbols layout 0 ++ head_parts layout heads
+
 -- the names of a layout serve as symbols
 pub record IsUsable (layout : Layout) : Type 0 where
   pub own : list_all is_own (value_names layout) ≡ true
+  pub bare : list_all (λ w. not (is_headed w)) (value_names layout) ≡ true
   pub distinct : are_distinct (value_names layout) ≡ true
-  pub registers : are_new [] layout.registers ≡ true
-  pub flags : are_new (onto [] layout.registers) layout.flags ≡ true
+  pub fixed : (heads : Bool) → list_all is_fixed (fixed_names layout heads) ≡ true
+  pub new : (heads : Bool) → are_new [] (fixed_names layout heads) ≡ true
+
+rv_fixed : (compressed heads : Bool) → list_all is_fixed (fixed_names (rv_layout compressed) heads) ≡ true
+unfolding digits
+rv_fixed compressed false = refl
+rv_fixed compressed true = refl
+
+rv_new : (compressed heads : Bool) → are_new [] (fixed_names (rv_layout compressed) heads) ≡ true
+unfolding digits
+rv_new compressed false = refl
+rv_new compressed true = refl
 
 pub rv_usable : (compressed : Bool) → IsUsable (rv_layout compressed)
 unfolding digits
-rv_usable compressed = record { own = refl; distinct = refl; registers = refl; flags = refl }
+rv_usable compressed = record { own = refl; bare = refl; distinct = refl; fixed = rv_fixed compressed; new = rv_new compressed }
+
+arm_fixed : (e : Endian) (profile : Profile) (heads : Bool) → list_all is_fixed (fixed_names (arm_layout e profile) heads) ≡ true
+unfolding digits
+arm_fixed e profile false = refl
+arm_fixed e profile true = refl
+
+arm_new : (e : Endian) (profile : Profile) (heads : Bool) → are_new [] (fixed_names (arm_layout e profile) heads) ≡ true
+unfolding digits
+arm_new e profile false = refl
+arm_new e profile true = refl
 
 pub arm_usable : (e : Endian) (profile : Profile) → IsUsable (arm_layout e profile)
 unfolding digits
-arm_usable e profile = record { own = refl; distinct = refl; registers = refl; flags = refl }
+arm_usable e profile = record { own = refl; bare = refl; distinct = refl; fixed = arm_fixed e profile; new = arm_new e profile }
 
 pub usable_of : (form : forms.Layout) → IsUsable (layout_of form)
 usable_of (Rv32 compressed) = rv_usable compressed
@@ -87,3 +134,41 @@ place_none (n ∷ ns) w h = by_first (bytes_eq w n) h (place_none ns w)
         (if b then Some 0 else option_map (λ i. i + 1) (place_in ns w)) ≡ None
     by_first true h f = absurd (cc h)
     by_first false h f = ap (option_map (λ i. i + 1)) (f h)
+
+-- what passes a test on two lists
+pub all_both : (p : List ℕ → Bool) (v w : List (List ℕ)) → list_all p (v ++ w) ≡ true → (list_all p v ≡ true) × (list_all p w ≡ true)
+all_both p v w h = both_true (list_all p v) (list_all p w) (sym (list_all-append p v w) ∙ h)
+
+-- a name is among itself
+pub among_first : (w : List ℕ) → among (w ∷ []) w ≡ true
+among_first w = rw (same_text w) refl
+
+-- what is among two lists
+pub among_left : (v w : List (List ℕ)) (n : List ℕ) → among v n ≡ true → among (v ++ w) n ≡ true
+among_left [] w n h = absurd (cc h)
+among_left (m ∷ v) w n h = by_first (bytes_eq n m) h (among_left v w n)
+  where
+    by_first : (b : Bool) → (b || among v n) ≡ true → (among v n ≡ true → among (v ++ w) n ≡ true) → (b || among (v ++ w) n) ≡ true
+    by_first true h f = refl
+    by_first false h f = f h
+
+pub among_right : (v w : List (List ℕ)) (n : List ℕ) → among w n ≡ true → among (v ++ w) n ≡ true
+among_right [] w n h = h
+among_right (m ∷ v) w n h = or_true (bytes_eq n m) (among (v ++ w) n) (among_right v w n h)
+  where
+    or_true : (a b : Bool) → b ≡ true → (a || b) ≡ true
+    or_true true b h = refl
+    or_true false b h = h
+
+-- the symbols of a part by their places
+pub part_count : (p : ℕ) (names : List (List ℕ)) → length (part_names p names) ≡ length names
+part_count zero names = refl
+part_count (suc p) names = length-map names of_head
+
+pub part_at : (p : ℕ) (names : List (List ℕ)) (i : ℕ) → i < length names → name_at (part_names p names) i ≡ part_name p (name_at names i)
+part_at zero names i l = refl
+part_at (suc p) names i l = get_or-map of_head names i [] [] l
+
+pub part_among : (p : ℕ) (names : List (List ℕ)) (i : ℕ) → i < length names → among (part_names p names) (part_name p (name_at names i)) ≡ true
+part_among p names i l =
+    ap (among (part_names p names)) (sym (part_at p names i l)) ∙ among_at (part_names p names) i (let c = part_count p names in omega (arith, l, c))

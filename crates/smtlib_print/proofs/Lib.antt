@@ -30,3 +30,11 @@ pub mod Ranked
 pub mod Inverses
 pub mod Depths
 pub mod Placing
+pub mod Sources
+pub mod Spoken
+pub mod Named
+pub mod FrameValued
+pub mod FrameTelling
+pub mod Framed
+pub mod Plain
+pub mod Forms

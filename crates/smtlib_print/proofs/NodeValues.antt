@@ -1,6 +1,6 @@
 -- The term of a node has the node's value, where the terms of the nodes before it have theirs.
 use Rattle.std.proofs.Common.{◌≡◌, ℕ, zero, suc, ◌+◌, ◌-◌, ◌*◌, ◌^◌, ◌<◌, ◌≤◌, refl, ap, sym, ◌∙◌, subst, arith, true, false, List, [], Option, Some, length}
-use Rattle.std.specs.Prelude.{◌==◌, nat_lt, nat_le, codes, if◌then◌else◌, slice_index, slice_index_or}
+use Rattle.std.specs.Prelude.{◌==◌, nat_lt, nat_le, if◌then◌else◌, slice_index, slice_index_or}
 use Rattle.std.proofs.lemmas.Bool.Decides.{nat_tests}
 use Rattle.word_spec.specs.Words as words
 use Rattle.word_spec.specs.Memory.{Memory}
@@ -14,7 +14,7 @@ use Rattle.term_spec.specs.Terms.{TermReading, InRange, TermValue, TermNode, Reg
 use Rattle.term_dag.proofs.Ranges.{word_fits, result_is_width}
 use Rattle.term_dag.proofs.Shapes.{few_bits}
 use Rattle.smtlib_print.specs.Commands as commands
-use Rattle.smtlib_print.specs.Commands.{term_name, node_term}
+use Rattle.smtlib_print.specs.Commands.{memory_name, part_name, term_name, node_term}
 use Rattle.smtlib_print.proofs.Constants.{constant_value, hex_constant}
 use Rattle.smtlib_print.proofs.Memories.{SameBelow, loading_value, storing_value}
 use Rattle.smtlib_print.proofs.Names.{term_symbol, symbol_value}
@@ -37,12 +37,13 @@ pub record Knows (symbols : List ℕ → Option SmtValue) (x : TermReading) (ns 
 
 -- an input has its value
 abbrev pub HasInput : (symbols : List ℕ → Option SmtValue) → Layout → (numbers : List ℕ) → TermReading → TermNode → Type 0
-HasInput symbols layout numbers x (RegisterNode p r) = atom_value symbols (slice_index_or layout.registers (r - layout.first) []) ≡ Some (WordValue 32 (x.regs p r))
-HasInput symbols layout numbers x (FlagNode p f) = atom_value symbols (slice_index_or layout.flags (length layout.flags - 1 - f) [])
-    ≡ Some (WordValue 1 (x.flags p f))
+HasInput symbols layout numbers x (RegisterNode p r) =
+    atom_value symbols (part_name p (slice_index_or layout.registers (r - layout.first) [])) ≡ Some (WordValue 32 (x.regs p r))
+HasInput symbols layout numbers x (FlagNode p f) =
+    atom_value symbols (part_name p (slice_index_or layout.flags (length layout.flags - 1 - f) [])) ≡ Some (WordValue 1 (x.flags p f))
 HasInput symbols layout numbers x (ChoiceNode i) = atom_value symbols (choice_name (slice_index numbers i)) ≡ Some (WordValue 2 (x.choice i))
 HasInput symbols layout numbers x (BaseNode p j) = x.base p j ≡ 0
-HasInput symbols layout numbers x (MemoryNode p) = atom_value symbols (codes "mem") ≡ Some (ArrayValue (x.mem p))
+HasInput symbols layout numbers x (MemoryNode p) = atom_value symbols (memory_name p) ≡ Some (ArrayValue (x.mem p))
 HasInput symbols layout numbers x (TakeNode n m a p) = ⊥
 HasInput symbols layout numbers x n = Unit {0}
 

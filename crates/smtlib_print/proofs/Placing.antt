@@ -1,77 +1,92 @@
 -- The points of an unrolled program, as they are put into order.
-use Rattle.std.proofs.Common.{◌≡◌, ℕ, zero, suc, ◌+◌, ◌<◌, ◌^◌, ap, sym, ◌∙◌, subst, arith, List, [], ◌∷◌, ◌++◌, length, inl, inr, get_or}
-use Rattle.std.specs.Prelude.{slice_index_or}
+use Rattle.std.proofs.Common.{◌≡◌, ℕ, zero, suc, ◌+◌, ◌<◌, ◌^◌, ap, sym, ◌∙◌, subst, arith, false, List, [], ◌∷◌, ◌++◌, Some, length, map, refl, inl, inr, get_or}
+use Rattle.std.specs.Prelude.{slice_get, slice_index_or}
 use Rattle.std.specs.List.Sorted.{IsPermutation}
 use Rattle.std.proofs.Math.ListN.{length-append}
 use Rattle.std.proofs.lemmas.Bool.{cases_order}
+use Rattle.std.proofs.lemmas.List.{length-map}
 use Rattle.std.proofs.lemmas.List.Sorted.{All-permutation, length_permutation}
-use Rattle.bilv_spec.specs.Points as points
-use Rattle.program_points.specs.Tables.{stack_at}
+use Rattle.frame_spec.specs.FramePoints as frames
+use Rattle.program_points.specs.Listed.{anchor_of}
+use Rattle.program_points.specs.Tables.{stack_at, stacks_of}
 use Rattle.program_points.specs.declared.values.Frame.{Frame}
 use Rattle.program_points.proofs.Lists.{or_left, or_last}
-use Rattle.question_form.specs.Views.{no_code, points_of, unrolled_of}
+use Rattle.question_form.specs.Views.{no_code}
 use Rattle.question_form.specs.declared.unrolled.Point.{Point}
+use Rattle.question_form.specs.declared.unrolled.Root.{Root}
 use Rattle.question_form.specs.declared.unrolled.Unrolled.{Unrolled}
-use Rattle.walk_spec.specs.Unrolled.{no_point}
-use Rattle.smtlib_print.specs.Numbered.{AreApart, AreNumbersOf}
-use Rattle.smtlib_print.specs.Orders.{AreInverse, ArePlaced, AreSorted, IsPlacedAt}
+use Rattle.question_form.specs.FrameViews as views
+use Rattle.question_form.specs.FrameViews.{frame_unrolled_of, no_root}
+use Rattle.smtlib_print.specs.Numbered.{AreOnce, AreRanks}
+use Rattle.smtlib_print.specs.Orders.{AreInverse, ArePlaced, AreSorted, IsPlacedAt, point_by, points_by}
 use Rattle.smtlib_print.specs.declared.ordering.Placed.{Placed}
-use Rattle.smtlib_print.proofs.Choices.{points_count}
-use Rattle.smtlib_print.proofs.Ranked.{are_numbers}
+use Rattle.smtlib_print.proofs.Ranked.{are_ranks}
+
+-- the point of its parts
+abbrev there : frames.Anchor → (turns : ℕ) → (stack : List ℕ) → (at : ℕ) → frames.Point
+there anchor turns stack at = record { anchor = anchor; turns = turns; contract = false; stack = stack; at = at }
 
 -- the point at a place
-abbrev there : (turns : ℕ) → (stack : List ℕ) → (at : ℕ) → points.Point
-there turns stack at = record { turns = turns; stack = stack; at = at }
+point_there : (u : Unrolled) (roots : List Root) (qs : List Point) (i : ℕ) → i < length qs → (d : Point) → d ≡ get_or qs i d →
+    slice_get (map (point_by u roots) qs) i ≡ Some (point_by u roots d)
+point_there u roots [] i l d e = absurd (omega (arith, l))
+point_there u roots (q ∷ qs) zero l d e = ap (λ x. Some (point_by u roots x)) (sym e)
+point_there u roots (q ∷ qs) (suc i) l d e = point_there u roots qs i (omega (arith, l)) d e
 
-pub point_there : (u : Unrolled) (qs : List Point) (i : ℕ) (d : Point) (a : ℕ) → i < length qs → d ≡ get_or qs i d →
-    a ≡ (slice_index_or u.codes.items d.code no_code).at → there d.turns (stack_at u.frames.items d.stack) a
-    ≡ (slice_index_or (points_of u qs) i no_point).point
-point_there u [] i d a l e f = absurd (omega (arith, l))
-point_there u (q ∷ qs) zero d a l e f =
-    ap (λ z. there d.turns (stack_at u.frames.items d.stack) z) f
-    ∙ ap (λ (x : Point). there x.turns (stack_at u.frames.items x.stack) (slice_index_or u.codes.items x.code no_code).at) e
-point_there u (q ∷ qs) (suc i) d a l e f = point_there u qs i d a (omega (arith, l)) e f
+pub is_placed : (u : Unrolled) (roots : List Root) (i : ℕ) (d : Point) (x : Placed) → i < length u.points.items → d ≡ get_or u.points.items i d →
+    x.root ≡ (slice_index_or roots d.root no_root).head → x.turns ≡ d.turns → x.stack ≡ d.stack →
+    x.at ≡ (slice_index_or u.codes.items d.code no_code).at → x.place ≡ i → IsPlacedAt (points_by u roots) u.frames.items i x
+is_placed u roots i d x l e root turns stack at place = (
+  place,
+  point_there u roots u.points.items i l d e
+      ∙ ap Some (sym (ap (λ z. there (anchor_of (stacks_of u.frames.items) z) x.turns (stack_at u.frames.items x.stack) x.at) root
+      ∙ ap (λ z. there (anchor_of (stacks_of u.frames.items) (slice_index_or roots d.root no_root).head) z (stack_at u.frames.items x.stack) x.at) turns
+      ∙ ap (λ z. there (anchor_of (stacks_of u.frames.items) (slice_index_or roots d.root no_root).head) d.turns (stack_at u.frames.items z) x.at) stack
+      ∙ ap (λ z. there (anchor_of (stacks_of u.frames.items) (slice_index_or roots d.root no_root).head) d.turns (stack_at u.frames.items d.stack) z) at)),
+)
 
 -- so many points are listed
-pub record ArePlacedTo (u : Unrolled) (n : ℕ) (xs : List Placed) : Type 0 where
+pub record ArePlacedTo (all : List frames.Point) (table : List Frame) (n : ℕ) (xs : List Placed) : Type 0 where
   pub count : length xs ≡ n
-  pub each : (i : ℕ) (d : Placed) → i < n → IsPlacedAt (unrolled_of u) u.frames.items i (get_or xs i d)
+  pub each : (i : ℕ) (d : Placed) → i < n → IsPlacedAt all table i (get_or xs i d)
 
-pub placed_none : (u : Unrolled) (xs : List Placed) → xs ≡ [] → ArePlacedTo u 0 xs
-placed_none u xs e = record { count = ap length e; each = λ i d l. absurd (omega (arith, l)) }
+pub placed_none : (all : List frames.Point) (table : List Frame) (xs : List Placed) → xs ≡ [] → ArePlacedTo all table 0 xs
+placed_none all table xs e = record { count = ap length e; each = λ i d l. absurd (omega (arith, l)) }
 
-pub placed_more : (u : Unrolled) (n : ℕ) (x : Placed) (xs new : List Placed) → new ≡ xs ++ x ∷ [] → IsPlacedAt (unrolled_of u) u.frames.items n x →
-    ArePlacedTo u n xs → ArePlacedTo u (n + 1) new
-placed_more u n x xs new e is so_far =
+pub placed_more : (all : List frames.Point) (table : List Frame) (n : ℕ) (x : Placed) (xs new : List Placed) → new ≡ xs ++ x ∷ [] →
+    IsPlacedAt all table n x → ArePlacedTo all table n xs → ArePlacedTo all table (n + 1) new
+placed_more all table n x xs new e is so_far =
     let long : length (xs ++ x ∷ []) ≡ length xs + 1 = length-append xs (x ∷ []) in
     record {
       count = ap length e ∙ long ∙ ap (λ m. m + 1) so_far.count;
       each = λ i d l. elim (cases_order i n) [
         | inl t ↦ (let z : i ≡ length xs = omega (arith, t, so_far.count) in
             let at : get_or new i d ≡ x = ap (λ (l : List Placed). get_or l i d) e ∙ ap (λ m. get_or (xs ++ x ∷ []) m d) z ∙ or_last xs x d in
-            subst (λ (m : ℕ). IsPlacedAt (unrolled_of u) u.frames.items m (get_or new i d)) (sym t)
-            (subst (λ (y : Placed). IsPlacedAt (unrolled_of u) u.frames.items n y) (sym at) is))
+            subst (λ (m : ℕ). IsPlacedAt all table m (get_or new i d)) (sym t)
+            (subst (λ (y : Placed). IsPlacedAt all table n y) (sym at) is))
         | inr t ↦ elim t [
           | inl a ↦ (let at : get_or new i d ≡ get_or xs i d =
               ap (λ (l : List Placed). get_or l i d) e ∙ or_left xs (x ∷ []) i d (omega (arith, a, so_far.count)) in
-              subst (λ (y : Placed). IsPlacedAt (unrolled_of u) u.frames.items i y) (sym at) (so_far.each i d a))
+              subst (λ (y : Placed). IsPlacedAt all table i y) (sym at) (so_far.each i d a))
           | inr a ↦ absurd (omega (arith, l, a))
         ]
       ];
     }
 
-pub all_placed : (u : Unrolled) (n : ℕ) (xs : List Placed) → n ≡ length u.points.items → ArePlacedTo u n xs → ArePlaced (unrolled_of u) u.frames.items xs
-all_placed u n xs e are = (are.count ∙ e ∙ sym (points_count u u.points.items), λ i d l. are.each i d (omega (arith, l, are.count)))
+pub all_placed : (u : Unrolled) (roots : List Root) (n : ℕ) (xs : List Placed) → n ≡ length u.points.items →
+    ArePlacedTo (points_by u roots) u.frames.items n xs → ArePlaced (points_by u roots) u.frames.items xs
+all_placed u roots n xs e are =
+    (are.count ∙ e ∙ sym (length-map u.points.items (point_by u roots)), λ i d l. are.each i d (omega (arith, l, are.count)))
 
-module _ (u : Unrolled) (placed order read : List Placed) (are : ArePlaced (unrolled_of u) u.frames.items placed) (moved : IsPermutation placed order)
-    (same : read ≡ order) where
+module _ (u : Unrolled) (roots : List Root) (placed order read : List Placed) (are : ArePlaced (points_by u roots) u.frames.items placed)
+    (moved : IsPermutation placed order) (same : read ≡ order) where
   pub order_count : length read ≡ length u.points.items
-  order_count = ap length same ∙ length_permutation placed order moved ∙ are.0 ∙ points_count u u.points.items
+  order_count = ap length same ∙ length_permutation placed order moved ∙ are.0 ∙ length-map u.points.items (point_by u roots)
 
   -- each is at a place of a point
   pub order_within : (i : ℕ) (d : Placed) → i < length read → (get_or read i d).place < length read
   order_within i d l =
-      let long : length placed ≡ length u.points.items = are.0 ∙ points_count u u.points.items in
+      let long : length placed ≡ length u.points.items = are.0 ∙ length-map u.points.items (point_by u roots) in
       let all = All-permutation (λ (x : Placed). x.place < length u.points.items) placed order moved
       (λ j e m. (let q = (are.1 j e m).0 in omega (arith, q, m, long))) in
       let here = all i d (let n : length read ≡ length order = ap length same in omega (arith, l, n)) in
@@ -80,9 +95,17 @@ module _ (u : Unrolled) (placed order read : List Placed) (are : ArePlaced (unro
       omega (arith, here, place, order_count)
 
   -- the numbers of their places are those of the points
-  pub order_numbers : (frames : List Frame) (numbers : List ℕ) → AreApart (unrolled_of u) → frames ≡ u.frames.items → AreSorted frames order →
-      AreInverse read numbers → length numbers ≡ length read → length read < 2 ^ 32 → AreNumbersOf (unrolled_of u) numbers
-  order_numbers frames numbers apart of sorted inverse count few =
-      are_numbers (unrolled_of u) u.frames.items placed order numbers apart are moved (subst (λ (f : List Frame). AreSorted f order) of sorted)
+  pub order_ranks : (table : List Frame) (numbers : List ℕ) → AreOnce (points_by u roots) → table ≡ u.frames.items → AreSorted table order →
+      AreInverse read numbers → length numbers ≡ length read → length read < 2 ^ 32 → AreRanks (points_by u roots) numbers
+  order_ranks table numbers apart of sorted inverse count few =
+      are_ranks (points_by u roots) u.frames.items placed order numbers apart are moved (subst (λ (f : List Frame). AreSorted f order) of sorted)
       (subst (λ (xs : List Placed). AreInverse xs numbers) same inverse) (count ∙ ap length same)
       (let n : length read ≡ length order = ap length same in omega (arith, few, n))
+
+-- the points of the unrolled frame of a value
+points_are : (u : Unrolled) (qs : List Point) → map (λ q. q.point) (views.points_of u qs) ≡ map (point_by u u.roots.items) qs
+points_are u [] = refl
+points_are u (q ∷ qs) = ap (λ l. point_by u u.roots.items q ∷ l) (points_are u qs)
+
+pub frame_points : (u : Unrolled) → map (λ q. q.point) (frame_unrolled_of u).points ≡ points_by u u.roots.items
+frame_points u = points_are u u.points.items

@@ -8,11 +8,11 @@ use Rattle.machine_spec.specs.StateText.{register_names}
 use Rattle.start_value.specs.declared.layout.Layout.{Layout}
 use Rattle.start_value.specs.declared.layout.Layout.TheVariants.{Rv32, Arm}
 use Rattle.start_value.specs.Starts.{layout_of}
-use Rattle.state_text.proofs.Appends.{three, five, seven}
+use Rattle.state_text.proofs.Appends.{two, three, five, seven}
 use Rattle.word_spec.specs.Memory.{Endian, Little, Big, endian, place}
 use Rattle.bilv_spec.specs.SmtLib.{Sexp, Atom}
 use Rattle.word_spec.specs.Texts.{hex_digit, hex_digits, number_text}
-use Rattle.smtlib_print.specs.Commands.{binary_digits, term, address, behind, selected, loading, storing, extract, constant_text, operation, apply, word_sort, numeral, sort_of, definition, declaration}
+use Rattle.smtlib_print.specs.Commands.{binary_digits, term, address, behind, selected, loading, storing, extract, constant_text, operation, apply, word_sort, numeral, sort_of, definition, declaration, array_sort}
 use Rattle.machine_spec.specs.Bil.{SignedDivide}
 use Rattle.smtlib_print.specs.Written.{three as three_of, written}
 
@@ -190,6 +190,21 @@ register_added start first second all w e f g =
     ∙ ap (λ t. start ++ t) (ended (codes "(declare-const ") w (codes " (_ BitVec 32))"))
 
 -- that of a flag
-pub flag_added : (name w : List ℕ) → name ≡ w → codes "(declare-const " ++ (name ++ codes " (_ BitVec 1))\n")
-    ≡ written (declaration w (word_sort (Atom (codes "1")))) ++ codes "\n"
-flag_added name w e = ap (λ n. codes "(declare-const " ++ (n ++ codes " (_ BitVec 1))\n")) e ∙ ended (codes "(declare-const ") w (codes " (_ BitVec 1))")
+pub flag_added : (start first second all w : List ℕ) → first ≡ start ++ codes "(declare-const " → second ≡ first ++ w →
+    all ≡ second ++ codes " (_ BitVec 1))\n" →
+    all ≡ start ++ (written (declaration w (word_sort (Atom (codes "1")))) ++ codes "\n")
+flag_added start first second all w e f g =
+    three start first second all (codes "(declare-const ") w (codes " (_ BitVec 1))\n") e f g
+    ∙ ap (λ t. start ++ t) (ended (codes "(declare-const ") w (codes " (_ BitVec 1))"))
+
+-- that of a memory
+pub memory_added : (start first second all w : List ℕ) → first ≡ start ++ codes "(declare-const " → second ≡ first ++ w →
+    all ≡ second ++ codes " (Array (_ BitVec 32) (_ BitVec 8)))\n" →
+    all ≡ start ++ (written (declaration w array_sort) ++ codes "\n")
+memory_added start first second all w e f g =
+    three start first second all (codes "(declare-const ") w (codes " (Array (_ BitVec 32) (_ BitVec 8)))\n") e f g
+    ∙ ap (λ t. start ++ t) (ended (codes "(declare-const ") w (codes " (Array (_ BitVec 32) (_ BitVec 8)))"))
+
+-- a name with what a part has before it
+pub part_added : (start first all p w : List ℕ) → first ≡ start ++ p → all ≡ first ++ w → all ≡ start ++ (p ++ w)
+part_added start first all p w e f = two start first all p w e f

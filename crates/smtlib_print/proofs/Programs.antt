@@ -24,16 +24,16 @@ use Rattle.walk_laws.proofs.WalkQuestions.{walk_answers_over}
 use Rattle.smtlib_print.specs.Told.{AreInOrder, IsDrawn, IsSymbolOf, TellsScript}
 
 -- a choice is the first name of a list where it is drawn, or stands behind it
-drawn_by : (b : Bool) (c w : List ℕ) (rest : List (List ℕ)) → Contains (if b then c ∷ rest else rest) w → ((b ≡ true) × (w ≡ c)) ⊎ Contains rest w
+pub drawn_by : (b : Bool) (c w : List ℕ) (rest : List (List ℕ)) → Contains (if b then c ∷ rest else rest) w → ((b ≡ true) × (w ≡ c)) ⊎ Contains rest w
 drawn_by true c w rest (zero, l, e) = inl (refl, sym e)
 drawn_by true c w rest (suc i, l, e) = inr (i, omega (arith, l), e)
 drawn_by false c w rest h = inr h
 
-drawn_first : (b : Bool) (c : List ℕ) (rest : List (List ℕ)) → b ≡ true → Contains (if b then c ∷ rest else rest) c
+pub drawn_first : (b : Bool) (c : List ℕ) (rest : List (List ℕ)) → b ≡ true → Contains (if b then c ∷ rest else rest) c
 drawn_first true c rest h = (0, omega arith, refl)
 drawn_first false c rest h = absurd (cc)
 
-drawn_later : (b : Bool) (c w : List ℕ) (rest : List (List ℕ)) → Contains rest w → Contains (if b then c ∷ rest else rest) w
+pub drawn_later : (b : Bool) (c w : List ℕ) (rest : List (List ℕ)) → Contains rest w → Contains (if b then c ∷ rest else rest) w
 drawn_later true c w rest (i, l, e) = (suc i, omega (arith, l), e)
 drawn_later false c w rest h = h
 
@@ -111,7 +111,7 @@ once points order i j l m e =
     subst (λ (v : Point). is_point_below v (get_or points j d) ≡ true) same (order i j d l m) in
     let t : false ≡ true = sym (point_itself (get_or points j d)) ∙ h in cc
 
-draws_same : (row : Option Row) → draws row ≡ row_draws row
+pub draws_same : (row : Option Row) → draws row ≡ row_draws row
 draws_same None = refl
 draws_same (Some row) = refl
 

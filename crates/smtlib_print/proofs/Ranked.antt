@@ -1,5 +1,5 @@
 -- Points in their order, and their numbers.
-use Rattle.std.proofs.Common.{◌≡◌, ℕ, zero, suc, ◌+◌, ◌≤◌, ◌<◌, ◌^◌, refl, ap, sym, ◌∙◌, subst, arith, Bool, true, false, List, [], ◌∷◌, Some, length, map, Contains, inl, inr, get_or, is_lt}
+use Rattle.std.proofs.Common.{◌≡◌, ℕ, zero, suc, ◌+◌, ◌≤◌, ◌<◌, ◌^◌, refl, ap, sym, ◌∙◌, subst, arith, Bool, true, false, List, [], ◌∷◌, None, Some, length, map, Contains, inl, inr, get_or, is_lt}
 use Rattle.std.specs.Prelude.{◌≢◌, ◌==◌, slice_get, slice_index, sum_by, AllPairs}
 use Rattle.std.specs.Cmp.{IsStrictWeakOrder}
 use Rattle.std.specs.List.Sorted.{IsPermutation}
@@ -12,16 +12,14 @@ use Rattle.std.proofs.lemmas.List.MinMax.{ranks_by}
 use Rattle.std.proofs.lemmas.List.Sorted.{All-permutation, Contains-permutation, length_permutation, sorted_far, sum_by-IsPermutation}
 use Rattle.std.proofs.lemmas.List.Sums.{sum_by-cons, get_or-le-sum_by}
 use Rattle.std.proofs.lemmas.Option.{slice_get_within, slice_get-get_or, get_or_from_slice_get}
-use Rattle.bilv_spec.specs.Points.{Point}
-use Rattle.bilv_spec.specs.Scripts.{is_point_below}
+use Rattle.frame_spec.specs.FramePoints.{AtEntry, Point}
+use Rattle.frame_spec.specs.FrameScripts.{is_frame_point_below}
 use Rattle.word_spec.specs.Words.{bit}
 use Rattle.program_points.specs.declared.values.Frame.{Frame}
-use Rattle.walk_spec.specs.Unrolled.{UnrolledPoint, UnrolledProgram, no_point, point_at}
-use Rattle.smtlib_print.specs.Numbered.{AreApart, AreNumbersOf}
+use Rattle.smtlib_print.specs.Numbered.{AreOnce, AreRanks}
 use Rattle.smtlib_print.specs.Orders.{AreInverse, ArePlaced, AreSorted, placed_order, placed_point, point_key}
 use Rattle.smtlib_print.specs.declared.ordering.Placed.{Placed}
-use Rattle.smtlib_print.proofs.Below.{below_by_order}
-use Rattle.smtlib_print.proofs.Programs.{point_itself}
+use Rattle.smtlib_print.proofs.Below.{below_by_order, frame_point_itself}
 
 -- two elements count for no more than all
 two_count : (f : Placed → ℕ) (xs : List Placed) (i j : ℕ) (d : Placed) → i < j → j < length xs → f (get_or xs i d) + f (get_or xs j d) ≤ sum_by f xs
@@ -62,25 +60,28 @@ counts_one p a (x ∷ xs) h =
     λ i d m. (let q = h (suc i) d (omega (arith, m)) in omega (arith, q)) in
     counted p a x xs (x.place == p) refl (omega (arith, e)) (λ l. counts_none p (suc a) xs l next) (counts_one p (suc a) xs next)
 
-module _ (u : UnrolledProgram) (frames : List Frame) (placed order : List Placed) (numbers : List ℕ) (apart : AreApart u) (are : ArePlaced u frames placed)
+module _ (all : List Point) (frames : List Frame) (placed order : List Placed) (numbers : List ℕ) (apart : AreOnce all) (are : ArePlaced all frames placed)
     (moved : IsPermutation placed order) (sorted : AreSorted frames order) (inverse : AreInverse order numbers) (count : length numbers ≡ length order)
     (few : length order < 2 ^ 32) where
   none : Placed
-  none = record { turns = 0; stack = 0; at = 0; place = 0 }
+  none = record { root = None; turns = 0; stack = 0; at = 0; place = 0 }
 
-  long : length order ≡ length u.points
+  no_point : Point
+  no_point = record { anchor = AtEntry; turns = 0; contract = false; stack = []; at = 0 }
+
+  long : length order ≡ length all
   long = length_permutation placed order moved ∙ are.0
 
   -- each is the point at its place
   abbrev IsHere : Placed → Type 0
-  IsHere x = (x.place < length u.points) × (placed_point frames x ≡ (point_at u x.place).point)
+  IsHere x = (x.place < length all) × (slice_get all x.place ≡ Some (placed_point frames x))
 
   here : (i : ℕ) (d : Placed) → i < length order → IsHere (get_or order i d)
   here = All-permutation IsHere placed order moved (λ i d l. (let q = are.1 i d l in
-      (omega (arith, q.0, l, are.0), q.1 ∙ ap (λ n. (point_at u n).point) (sym q.0))))
+      (omega (arith, q.0, l, are.0), ap (slice_get all) q.0 ∙ q.1)))
 
   -- each place is that of one of them
-  found : (i : ℕ) → i < length u.points → (j : ℕ) × (j < length order) × ((get_or order j none).place ≡ i)
+  found : (i : ℕ) → i < length all → (j : ℕ) × (j < length order) × ((get_or order j none).place ≡ i)
   found i l =
       let small : i < length placed = omega (arith, l, are.0) in
       let c = Contains-permutation placed order (get_or placed i none) moved (Contains-get_or placed i none small) in
@@ -102,20 +103,10 @@ module _ (u : UnrolledProgram) (frames : List Frame) (placed order : List Placed
       omega arith
 
   -- points at two places are two
-  two_points : (i j : ℕ) → i < j → j < length u.points → (point_at u i).point ≡ (point_at u j).point → ⊥
-  two_points i j l m e =
-      let n : length (map (λ (q : UnrolledPoint). q.point) u.points) ≡ length u.points = length-map u.points (λ (q : UnrolledPoint). q.point) in
-      let d : Point = no_point.point in
-      let a = slice_get-get_or (map (λ (q : UnrolledPoint). q.point) u.points) i d (omega (arith, l, m, n)) in
-      let b = slice_get-get_or (map (λ (q : UnrolledPoint). q.point) u.points) j d (omega (arith, m, n)) in
-      let x = get_or-map (λ (q : UnrolledPoint). q.point) u.points i no_point d (omega (arith, l, m)) in
-      let y = get_or-map (λ (q : UnrolledPoint). q.point) u.points j no_point d m in
-      apart i j l (omega (arith, m, n)) (a ∙ ap Some (x ∙ e ∙ sym y) ∙ sym b)
-
-  apart_points : (i j : ℕ) → i < length u.points → j < length u.points → i ≢ j → (point_at u i).point ≡ (point_at u j).point → ⊥
+  apart_points : (i j : ℕ) → i < length all → j < length all → i ≢ j → slice_get all i ≡ slice_get all j → ⊥
   apart_points i j l m n e = elim (cases_order i j) [
     | inl t ↦ n t
-    | inr t ↦ elim t [ inl a ↦ two_points i j a m e | inr a ↦ two_points j i a l (sym e) ]
+    | inr t ↦ elim t [ inl a ↦ apart i j a m e | inr a ↦ apart j i a l (sym e) ]
   ]
 
   -- the points in their order
@@ -131,37 +122,36 @@ module _ (u : UnrolledProgram) (frames : List Frame) (placed order : List Placed
   weak : IsStrictWeakOrder (λ (x y : Placed). is_lt (placed_order frames x y))
   weak = ranks_by nat_list_cmp_total (λ (x : Placed). point_key (placed_point frames x))
 
-  rise : AllPairs (λ x y. is_point_below x y ≡ true) points
+  rise : AllPairs (λ x y. is_frame_point_below x y ≡ true) points
   rise i j d l m =
       let n : j < length order = omega (arith, m, points_long) in
       let k : i < length order = omega (arith, l, n) in
       let h = sorted_far (λ (x y : Placed). is_lt (placed_order frames x y)) weak order sorted i j none (omega (arith, l)) n in
       let a = here i none k in
       let b = here j none n in
-      let below = below_by_order (placed_point frames (get_or order i none)) (placed_point frames (get_or order j none)) h
-      (λ e. apart_points (get_or order i none).place (get_or order j none).place a.0 b.0 (distinct i j l n) (sym a.1 ∙ e ∙ b.1)) in
-      ap (λ x. is_point_below x (get_or points j d)) (point_is i d k) ∙ ap (λ x. is_point_below (placed_point frames (get_or order i none)) x) (point_is j d n)
+      let below = below_by_order (placed_point frames (get_or order i none)) (placed_point frames (get_or order j none)) refl h
+      (λ e. apart_points (get_or order i none).place (get_or order j none).place a.0 b.0 (distinct i j l n) (a.1 ∙ ap Some e ∙ sym b.1)) in
+      ap (λ x. is_frame_point_below x (get_or points j d)) (point_is i d k)
+      ∙ ap (λ x. is_frame_point_below (placed_point frames (get_or order i none)) x) (point_is j d n)
       ∙ below
 
-  same_to : (q : Point) → Contains points q → Contains (map (λ (v : UnrolledPoint). v.point) u.points) q
+  same_to : (q : Point) → Contains points q → Contains all q
   same_to q c =
       let l : c.0 < length order = omega (arith, c.1, points_long) in
-      let h = here c.0 none l in
-      let n : length (map (λ (v : UnrolledPoint). v.point) u.points) ≡ length u.points = length-map u.points (λ (v : UnrolledPoint). v.point) in (
+      let h = here c.0 none l in (
         (get_or order c.0 none).place,
-        omega (arith, h.0, n),
-        get_or-map (λ (v : UnrolledPoint). v.point) u.points (get_or order c.0 none).place no_point q h.0 ∙ sym h.1 ∙ sym (point_is c.0 q l) ∙ c.2,
+        h.0,
+        get_or_from_slice_get all (get_or order c.0 none).place (placed_point frames (get_or order c.0 none)) q h.1 ∙ sym (point_is c.0 q l) ∙ c.2,
       )
 
-  same_from : (q : Point) → Contains (map (λ (v : UnrolledPoint). v.point) u.points) q → Contains points q
+  same_from : (q : Point) → Contains all q → Contains points q
   same_from q c =
-      let n : length (map (λ (v : UnrolledPoint). v.point) u.points) ≡ length u.points = length-map u.points (λ (v : UnrolledPoint). v.point) in
-      let l : c.0 < length u.points = omega (arith, c.1, n) in
-      let j = found c.0 l in
-      let e = get_or-map (λ (v : UnrolledPoint). v.point) u.points c.0 no_point q l in (
+      let j = found c.0 c.1 in
+      let h = here j.0 none j.1 in (
         j.0,
         omega (arith, j.1, points_long),
-        point_is j.0 q j.1 ∙ (here j.0 none j.1).1 ∙ ap (λ m. (point_at u m).point) j.2 ∙ sym e ∙ c.2,
+        point_is j.0 q j.1 ∙ sym (get_or_from_slice_get all (get_or order j.0 none).place (placed_point frames (get_or order j.0 none)) q h.1)
+            ∙ ap (λ m. get_or all m q) j.2 ∙ c.2,
       )
 
   -- the number of a place
@@ -170,11 +160,11 @@ module _ (u : UnrolledProgram) (frames : List Frame) (placed order : List Placed
       let j = found i (omega (arith, l, count, long)) in
       subst (λ (m : ℕ). (slice_index numbers m < length order) × ((get_or order (slice_index numbers m) none).place ≡ m)) j.2 (inverse j.0 none j.1)
 
-  number_at : (i : ℕ) → i < length numbers → slice_get points (slice_index numbers i) ≡ Some (point_at u i).point
+  number_at : (i : ℕ) → i < length numbers → slice_get points (slice_index numbers i) ≡ slice_get all i
   number_at i l =
       let n = number_is i l in
-      slice_get-get_or points (slice_index numbers i) no_point.point (omega (arith, n.0, points_long))
-      ∙ ap Some (point_is (slice_index numbers i) no_point.point n.0 ∙ (here (slice_index numbers i) none n.0).1 ∙ ap (λ m. (point_at u m).point) n.1)
+      slice_get-get_or points (slice_index numbers i) no_point (omega (arith, n.0, points_long))
+      ∙ ap Some (point_is (slice_index numbers i) no_point n.0) ∙ sym (here (slice_index numbers i) none n.0).1 ∙ ap (slice_get all) n.1
 
   once_by : (n m : ℕ) (q : Point) → n < m → slice_get points n ≡ Some q → slice_get points m ≡ Some q → ⊥
   once_by n m q l e f =
@@ -182,22 +172,26 @@ module _ (u : UnrolledProgram) (frames : List Frame) (placed order : List Placed
       let h = rise n m q l w in
       let a = get_or_from_slice_get points n q q e in
       let b = get_or_from_slice_get points m q q f in
-      let t : true ≡ false = sym h ∙ ap (λ x. is_point_below x (get_or points m q)) a ∙ ap (λ x. is_point_below q x) b ∙ point_itself q in cc
+      let t : true ≡ false = sym h ∙ ap (λ x. is_frame_point_below x (get_or points m q)) a ∙ ap (λ x. is_frame_point_below q x) b
+      ∙ frame_point_itself q in cc
 
-  number_once : (i n : ℕ) → i < length numbers → slice_get points n ≡ Some (point_at u i).point → n ≡ slice_index numbers i
-  number_once i n l e = elim (cases_order n (slice_index numbers i)) [
-    | inl t ↦ t
-    | inr t ↦ elim t [
-      | inl a ↦ absurd (once_by n (slice_index numbers i) (point_at u i).point a e (number_at i l))
-      | inr a ↦ absurd (once_by (slice_index numbers i) n (point_at u i).point a (number_at i l) e)
-    ]
-  ]
+  number_once : (i n : ℕ) → i < length numbers → slice_get points n ≡ slice_get all i → n ≡ slice_index numbers i
+  number_once i n l e =
+      let q = get_or all i no_point in
+      let is : slice_get all i ≡ Some q = slice_get-get_or all i no_point (omega (arith, l, count, long)) in
+      elim (cases_order n (slice_index numbers i)) [
+        | inl t ↦ t
+        | inr t ↦ elim t [
+          | inl a ↦ absurd (once_by n (slice_index numbers i) q a (e ∙ is) (number_at i l ∙ is))
+          | inr a ↦ absurd (once_by (slice_index numbers i) n q a (number_at i l ∙ is) (e ∙ is))
+        ]
+      ]
 
-  pub are_numbers : AreNumbersOf u numbers
-  are_numbers = (
+  pub are_ranks : AreRanks all numbers
+  are_ranks = (
     points,
-    record { same = λ q. (same_to q, same_from q); order = rise },
     record {
+      in_order = record { same = λ q. (same_to q, same_from q); order = rise };
       count = count ∙ long;
       few = omega (arith, few, points_long);
       within = λ i l. omega (arith, (number_is i l).0, points_long);

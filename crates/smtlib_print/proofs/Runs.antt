@@ -3,7 +3,7 @@ use Rattle.std.proofs.Common.{◌≡◌, ℕ, suc, ◌+◌, ◌-◌, ◌<◌, �
 use Rattle.std.specs.Prelude.{slice_index}
 use Rattle.std.proofs.Math.Seq.{drop-cons}
 use Rattle.std.proofs.lemmas.Bool.{cases_lt}
-use Rattle.walk_spec.specs.Unrolled.{ByteRun}
+use Rattle.walk_spec.specs.Unrolled.{AddressRun, ByteRun}
 use Rattle.known_bytes.specs.declared.listing.Known.{Known}
 use Rattle.known_bytes.specs.Runs.{run_of, AreRuns}
 use Rattle.smtlib_print.specs.Commands.{byte_assertions, run_assertions}
@@ -26,8 +26,8 @@ abbrev pub runs_from : List Known → ℕ → List ByteRun
 runs_from runs i = map run_of (drop i runs)
 
 -- the runs before a place are written
-pub record AreRunsWritten (runs : List Known) (old : List ℕ) (i : ℕ) (out : List ℕ) : Type 0 where
-  pub text : out ++ commands_text (run_assertions (runs_from runs i)) ≡ old ++ commands_text (run_assertions (map run_of runs))
+pub record AreRunsWritten (p : ℕ) (kept : List AddressRun) (runs : List Known) (old : List ℕ) (i : ℕ) (out : List ℕ) : Type 0 where
+  pub text : out ++ commands_text (run_assertions p kept (runs_from runs i)) ≡ old ++ commands_text (run_assertions p kept (map run_of runs))
   pub fit : FitMemory (runs_from runs i) → FitMemory (map run_of runs)
 
 -- the runs behind one
@@ -49,19 +49,20 @@ behind_all low (r ∷ rs) are h = (
 pub behind_runs : (rs : List Known) → AreRuns rs → AreBehind 0 (map run_of rs)
 behind_runs rs are = behind_all 0 rs are (λ d l. omega arith)
 
-pub runs_begin : (runs : List Known) (old : List ℕ) → AreRunsWritten runs old 0 old
-runs_begin runs old = record { text = refl; fit = λ f. f }
+pub runs_begin : (p : ℕ) (kept : List AddressRun) (runs : List Known) (old : List ℕ) → AreRunsWritten p kept runs old 0 old
+runs_begin p kept runs old = record { text = refl; fit = λ f. f }
 
 -- one run more
-pub run_more : (runs : List Known) (i : ℕ) (r d : Known) (old out new : List ℕ) → i < length runs → r ≡ get_or runs i d → FitsMemory (run_of r) →
-    new ≡ out ++ commands_text (byte_assertions (run_of r) 0 (run_of r).count) → AreRunsWritten runs old i out → AreRunsWritten runs old (i + 1) new
-run_more runs i r default old out new l e fits step inv =
+pub run_more : (p : ℕ) (kept : List AddressRun) (runs : List Known) (i : ℕ) (r d : Known) (old out new : List ℕ) → i < length runs →
+    r ≡ get_or runs i d → FitsMemory (run_of r) → new ≡ out ++ commands_text (byte_assertions p kept (run_of r) 0 (run_of r).count) →
+    AreRunsWritten p kept runs old i out → AreRunsWritten p kept runs old (i + 1) new
+run_more p kept runs i r default old out new l e fits step inv =
     let d : runs_from runs i ≡ run_of r ∷ runs_from runs (suc i) =
     ap (map run_of) (drop-cons runs i default l ∙ ap (λ (m : Known). m ∷ drop (suc i) runs) (sym e)) in
     let rest = runs_from runs (suc i) in
-    let text : new ++ commands_text (run_assertions rest) ≡ old ++ commands_text (run_assertions (map run_of runs)) =
-    ap (λ t. t ++ commands_text (run_assertions rest)) step
-    ∙ append_assoc out (commands_text (byte_assertions (run_of r) 0 (run_of r).count)) (commands_text (run_assertions rest))
-    ∙ ap (λ t. out ++ t) (sym (text-append (byte_assertions (run_of r) 0 (run_of r).count) (run_assertions rest)))
-    ∙ ap (λ z. out ++ commands_text (run_assertions z)) (sym d) ∙ inv.text in
+    let text : new ++ commands_text (run_assertions p kept rest) ≡ old ++ commands_text (run_assertions p kept (map run_of runs)) =
+    ap (λ t. t ++ commands_text (run_assertions p kept rest)) step
+    ∙ append_assoc out (commands_text (byte_assertions p kept (run_of r) 0 (run_of r).count)) (commands_text (run_assertions p kept rest))
+    ∙ ap (λ t. out ++ t) (sym (text-append (byte_assertions p kept (run_of r) 0 (run_of r).count) (run_assertions p kept rest)))
+    ∙ ap (λ z. out ++ commands_text (run_assertions p kept z)) (sym d) ∙ inv.text in
     rw add-one (record { text = text; fit = λ f. inv.fit (subst (λ (z : List ByteRun). FitMemory z) (sym d) (fits, f)) })

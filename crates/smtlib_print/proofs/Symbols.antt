@@ -1,14 +1,15 @@
 -- What a script declares and defines.
-use Rattle.std.proofs.Common.{◌≡◌, ℕ, zero, suc, ◌+◌, refl, ap, sym, ◌∙◌, subst, arith, List, [], ◌∷◌, ◌++◌, length, Contains}
-use Rattle.std.specs.Prelude.{codes}
+use Rattle.std.proofs.Common.{◌≡◌, ℕ, zero, suc, ◌+◌, refl, ap, sym, ◌∙◌, subst, arith, true, false, Bool, List, [], ◌∷◌, ◌++◌, length, Contains, append_assoc, append-nil}
+use Rattle.std.specs.Prelude.{codes, if◌then◌else◌, slice_index}
 use Rattle.bilv_spec.specs.Scripts.{IsTermName}
 use Rattle.bilv_spec.specs.SmtLib.{Sexp, Atom, Nil, declared_symbols, defined_symbols}
 use Rattle.machine_spec.specs.StateText.{Layout}
 use Rattle.term_spec.specs.Terms.{TermNode}
-use Rattle.walk_spec.specs.Unrolled.{ByteRun}
-use Rattle.smtlib_print.specs.Commands.{term, definition, declaration, declarations, all_declarations, node_definitions, assertion, byte_assertions, run_assertions, middle_commands, all_commands, is_one, word_sort, array_sort}
+use Rattle.walk_spec.specs.Unrolled.{AddressRun, ByteRun}
+use Rattle.smtlib_print.specs.Commands.{Source, term, declaration, declarations, part_declarations, head_declarations, node_definitions, assertion, has_byte, is_of_part, byte_assertions, run_assertions, head_assertions, file_assertions, choices_of, last_commands, middle_commands, all_commands, memory_name, part_names, word_sort, array_sort}
 use Rattle.smtlib_print.specs.Written.{one, two, before}
-use Rattle.smtlib_print.proofs.Asserted.{before-append}
+use Rattle.smtlib_print.proofs.Declared.{before-append}
+use Rattle.smtlib_print.proofs.Layouts.{fixed_names, head_parts, part_symbols}
 
 declares_names : (sort : Sexp) (names : List (List ℕ)) (rest : Sexp) → declared_symbols (before (declarations sort names) rest) ≡ names ++ declared_symbols rest
 declares_names sort [] rest = refl
@@ -19,45 +20,84 @@ nodes_declare : (layout : Layout) (numbers : List ℕ) (at : ℕ) (ns : List Ter
 nodes_declare layout numbers at [] rest = refl
 nodes_declare layout numbers at (n ∷ ns) rest = nodes_declare layout numbers (suc at) ns rest
 
-bytes_declare : (r : ByteRun) (i n : ℕ) (rest : Sexp) → declared_symbols (before (byte_assertions r i n) rest) ≡ declared_symbols rest
-bytes_declare r i zero rest = refl
-bytes_declare r i (suc n) rest = bytes_declare r (suc i) n rest
+if_declares : (asked : Bool) (c : Sexp) (cs : List Sexp) (rest : Sexp) → declared_symbols (before (c ∷ cs) rest) ≡ declared_symbols (before cs rest) →
+    declared_symbols (before (if asked then c ∷ cs else cs) rest) ≡ declared_symbols (before cs rest)
+if_declares true c cs rest h = h
+if_declares false c cs rest h = refl
 
-runs_declare : (rs : List ByteRun) (rest : Sexp) → declared_symbols (before (run_assertions rs) rest) ≡ declared_symbols rest
-runs_declare [] rest = refl
-runs_declare (r ∷ rs) rest =
-    ap declared_symbols (before-append (byte_assertions r 0 r.count) (run_assertions rs) rest)
-    ∙ bytes_declare r 0 r.count (before (run_assertions rs) rest) ∙ runs_declare rs rest
+bytes_declare : (p : ℕ) (kept : List AddressRun) (r : ByteRun) (i n : ℕ) (rest : Sexp) →
+    declared_symbols (before (byte_assertions p kept r i n) rest) ≡ declared_symbols rest
+bytes_declare p kept r i zero rest = refl
+bytes_declare p kept r i (suc n) rest =
+    if_declares (is_of_part p kept (r.at + i)) (assertion (has_byte p (r.at + i) (slice_index r.bytes i))) (byte_assertions p kept r (suc i) n) rest refl
+    ∙ bytes_declare p kept r (suc i) n rest
 
--- the declared symbols of a script: registers, flags, the memory, choices
-pub script_declares : (layout : Layout) (numbers : List ℕ) (choices : List (List ℕ)) (runs : List ByteRun) (nodes : List TermNode) (root : ℕ) →
-    declared_symbols (before (all_commands (middle_commands layout numbers choices runs nodes root)) Nil) ≡ layout.registers
-    ++ (layout.flags ++ (codes "mem" ∷ (choices ++ [])))
-script_declares layout numbers choices runs nodes root =
+runs_declare : (p : ℕ) (kept : List AddressRun) (rs : List ByteRun) (rest : Sexp) →
+    declared_symbols (before (run_assertions p kept rs) rest) ≡ declared_symbols rest
+runs_declare p kept [] rest = refl
+runs_declare p kept (r ∷ rs) rest =
+    ap declared_symbols (before-append (byte_assertions p kept r 0 r.count) (run_assertions p kept rs) rest)
+    ∙ bytes_declare p kept r 0 r.count (before (run_assertions p kept rs) rest) ∙ runs_declare p kept rs rest
+
+head_declares : (asked : Bool) (kept : List AddressRun) (rs : List ByteRun) (rest : Sexp) →
+    declared_symbols (before (head_assertions asked kept rs) rest) ≡ declared_symbols rest
+head_declares false kept rs rest = refl
+head_declares true kept rs rest = runs_declare 1 kept rs rest
+
+file_declares : (asked : Bool) (kept : List AddressRun) (rs : List ByteRun) (rest : Sexp) →
+    declared_symbols (before (file_assertions asked kept rs) rest) ≡ declared_symbols rest
+file_declares asked kept rs rest =
+    ap declared_symbols (before-append (run_assertions 0 kept rs) (head_assertions asked kept rs) rest)
+    ∙ runs_declare 0 kept rs (before (head_assertions asked kept rs) rest) ∙ head_declares asked kept rs rest
+
+-- the declared symbols of a part
+part_declares : (layout : Layout) (p : ℕ) (rest : Sexp) →
+    declared_symbols (before (part_declarations layout p) rest) ≡ part_symbols layout p ++ declared_symbols rest
+part_declares layout p rest =
+    let rs = declarations (word_sort (Atom (codes "32"))) (part_names p layout.registers) in
+    let fs = declarations (word_sort (Atom (codes "1"))) (part_names p layout.flags) in
+    let ms = declaration (memory_name p) array_sort ∷ [] in
+    ap declared_symbols (before-append rs (fs ++ ms) rest)
+    ∙ declares_names (word_sort (Atom (codes "32"))) (part_names p layout.registers) (before (fs ++ ms) rest)
+    ∙ ap (λ l. part_names p layout.registers ++ l) (ap declared_symbols (before-append fs ms rest)
+    ∙ declares_names (word_sort (Atom (codes "1"))) (part_names p layout.flags) (before ms rest)
+    ∙ sym (append_assoc (part_names p layout.flags) (memory_name p ∷ []) (declared_symbols rest)))
+    ∙ sym (append_assoc (part_names p layout.registers) (part_names p layout.flags ++ (memory_name p ∷ [])) (declared_symbols rest))
+
+-- those of the head
+heads_declare : (layout : Layout) (heads : Bool) (rest : Sexp) →
+    declared_symbols (before (head_declarations layout heads) rest) ≡ head_parts layout heads ++ declared_symbols rest
+heads_declare layout false rest = refl
+heads_declare layout true rest = part_declares layout 1 rest
+
+-- the declared symbols of a script: those of the entry, those of the head, and choices
+pub script_declares : (s : Source) → declared_symbols (before (all_commands (middle_commands s)) Nil) ≡ fixed_names s.layout s.heads ++ choices_of s
+script_declares s =
     let check = one (Atom (codes "check-sat")) in
-    let n = length nodes in
-    let bytes = run_assertions runs in
+    let n = length s.nodes in
+    let file = file_assertions s.asks_head s.kept s.known in
     let last = assertion (term n) in
-    let says = definition n (Atom (codes "Bool")) (is_one root) ∷ (bytes ++ (last ∷ [])) in
-    let defined = node_definitions layout numbers 0 nodes in
-    let declared = all_declarations layout choices in
-    let s32 = word_sort (Atom (codes "32")) in
-    let s1 = word_sort (Atom (codes "1")) in
-    let s2 = word_sort (Atom (codes "2")) in
-    let cs = declarations s2 choices in
-    let ms = declaration (codes "mem") array_sort ∷ cs in
-    let fs = declarations s1 layout.flags in
-    let rs = declarations s32 layout.registers in
+    let says = last_commands s in
+    let defined = node_definitions s.layout s.numbers 0 s.nodes in
+    let ps = part_declarations s.layout 0 in
+    let hs = head_declarations s.layout s.heads in
+    let cs = declarations (word_sort (Atom (codes "2"))) (choices_of s) in
     let rest = before (defined ++ says) (one check) in
     let nothing : declared_symbols rest ≡ [] =
-    ap declared_symbols (before-append defined says (one check)) ∙ nodes_declare layout numbers 0 nodes (before says (one check))
-    ∙ ap declared_symbols (before-append bytes (last ∷ []) (one check)) ∙ runs_declare runs (two last check) in
-    ap declared_symbols (before-append (declared ++ (defined ++ says)) (check ∷ []) Nil)
-    ∙ ap declared_symbols (before-append declared (defined ++ says) (one check))
-    ∙ ap declared_symbols (before-append rs (fs ++ ms) rest) ∙ declares_names s32 layout.registers (before (fs ++ ms) rest)
-    ∙ ap (λ l. layout.registers ++ l)
-    (ap declared_symbols (before-append fs ms rest) ∙ declares_names s1 layout.flags (before ms rest)
-    ∙ ap (λ l. layout.flags ++ (codes "mem" ∷ l)) (declares_names s2 choices rest ∙ ap (λ l. choices ++ l) nothing))
+    ap declared_symbols (before-append defined says (one check)) ∙ nodes_declare s.layout s.numbers 0 s.nodes (before says (one check))
+    ∙ ap declared_symbols (before-append file (last ∷ []) (one check)) ∙ file_declares s.asks_head s.kept s.known (two last check) in
+    ap declared_symbols (before-append ((ps ++ (hs ++ cs)) ++ (defined ++ says)) (check ∷ []) Nil)
+    ∙ ap declared_symbols (before-append (ps ++ (hs ++ cs)) (defined ++ says) (one check))
+    ∙ ap declared_symbols (before-append ps (hs ++ cs) rest) ∙ part_declares s.layout 0 (before (hs ++ cs) rest)
+    ∙ ap (λ l. part_symbols s.layout 0 ++ l)
+    (ap declared_symbols (before-append hs cs rest) ∙ heads_declare s.layout s.heads (before cs rest)
+    ∙ ap (λ l. head_parts s.layout s.heads ++ l)
+    (declares_names (word_sort (Atom (codes "2"))) (choices_of s) rest ∙ ap (λ l. choices_of s ++ l) nothing ∙ append-nil (choices_of s)))
+    ∙ sym (append_assoc (part_symbols s.layout 0) (head_parts s.layout s.heads) (choices_of s))
+
+-- what a list has, one with an element before it has
+pub one_later : (v w : List ℕ) (ws : List (List ℕ)) → Contains ws w → Contains (v ∷ ws) w
+one_later v w ws (k, l, e) = (suc k, omega (arith, l), e)
 
 -- names of terms
 abbrev pub AreTermNames : List (List ℕ) → Type 0
@@ -79,48 +119,74 @@ nodes_define : (layout : Layout) (numbers : List ℕ) (at : ℕ) (ns : List Term
 nodes_define layout numbers at [] rest h = h
 nodes_define layout numbers at (n ∷ ns) rest h = ((at, refl), nodes_define layout numbers (suc at) ns rest h)
 
-bytes_define : (r : ByteRun) (i n : ℕ) (rest : Sexp) → AreTermNames (defined_symbols rest) → AreTermNames (defined_symbols (before (byte_assertions r i n) rest))
-bytes_define r i zero rest h = h
-bytes_define r i (suc n) rest h = bytes_define r (suc i) n rest h
+if_defines : (asked : Bool) (c : Sexp) (cs : List Sexp) (rest : Sexp) → AreTermNames (defined_symbols (before (c ∷ cs) rest)) →
+    AreTermNames (defined_symbols (before cs rest)) → AreTermNames (defined_symbols (before (if asked then c ∷ cs else cs) rest))
+if_defines true c cs rest h k = h
+if_defines false c cs rest h k = k
+
+bytes_define : (p : ℕ) (kept : List AddressRun) (r : ByteRun) (i n : ℕ) (rest : Sexp) → AreTermNames (defined_symbols rest) →
+    AreTermNames (defined_symbols (before (byte_assertions p kept r i n) rest))
+bytes_define p kept r i zero rest h = h
+bytes_define p kept r i (suc n) rest h =
+    let more = bytes_define p kept r (suc i) n rest h in
+    if_defines (is_of_part p kept (r.at + i)) (assertion (has_byte p (r.at + i) (slice_index r.bytes i))) (byte_assertions p kept r (suc i) n) rest more more
 
 moved : (a b : Sexp) → a ≡ b → AreTermNames (defined_symbols b) → AreTermNames (defined_symbols a)
 moved a b e h = subst (λ (c : Sexp). AreTermNames (defined_symbols c)) (sym e) h
 
-runs_define : (rs : List ByteRun) (rest : Sexp) → AreTermNames (defined_symbols rest) → AreTermNames (defined_symbols (before (run_assertions rs) rest))
-runs_define [] rest h = h
-runs_define (r ∷ rs) rest h =
-    moved _ _ (before-append (byte_assertions r 0 r.count) (run_assertions rs) rest)
-    (bytes_define r 0 r.count (before (run_assertions rs) rest) (runs_define rs rest h))
+runs_define : (p : ℕ) (kept : List AddressRun) (rs : List ByteRun) (rest : Sexp) → AreTermNames (defined_symbols rest) →
+    AreTermNames (defined_symbols (before (run_assertions p kept rs) rest))
+runs_define p kept [] rest h = h
+runs_define p kept (r ∷ rs) rest h =
+    moved _ _ (before-append (byte_assertions p kept r 0 r.count) (run_assertions p kept rs) rest)
+    (bytes_define p kept r 0 r.count (before (run_assertions p kept rs) rest) (runs_define p kept rs rest h))
+
+head_defines : (asked : Bool) (kept : List AddressRun) (rs : List ByteRun) (rest : Sexp) → AreTermNames (defined_symbols rest) →
+    AreTermNames (defined_symbols (before (head_assertions asked kept rs) rest))
+head_defines false kept rs rest h = h
+head_defines true kept rs rest h = runs_define 1 kept rs rest h
+
+part_defines : (layout : Layout) (p : ℕ) (rest : Sexp) → AreTermNames (defined_symbols rest) →
+    AreTermNames (defined_symbols (before (part_declarations layout p) rest))
+part_defines layout p rest h =
+    let rs = declarations (word_sort (Atom (codes "32"))) (part_names p layout.registers) in
+    let fs = declarations (word_sort (Atom (codes "1"))) (part_names p layout.flags) in
+    let ms = declaration (memory_name p) array_sort ∷ [] in
+    moved (before (rs ++ (fs ++ ms)) rest) (before rs (before (fs ++ ms) rest)) (before-append rs (fs ++ ms) rest)
+    (declarations_define (word_sort (Atom (codes "32"))) (part_names p layout.registers) (before (fs ++ ms) rest)
+    (moved (before (fs ++ ms) rest) (before fs (before ms rest)) (before-append fs ms rest)
+    (declarations_define (word_sort (Atom (codes "1"))) (part_names p layout.flags) (before ms rest) h)))
+
+heads_define : (layout : Layout) (heads : Bool) (rest : Sexp) → AreTermNames (defined_symbols rest) →
+    AreTermNames (defined_symbols (before (head_declarations layout heads) rest))
+heads_define layout false rest h = h
+heads_define layout true rest h = part_defines layout 1 rest h
 
 -- what a script defines
-pub script_defines : (layout : Layout) (numbers : List ℕ) (choices : List (List ℕ)) (runs : List ByteRun) (nodes : List TermNode) (root : ℕ) →
-    AreTermNames (defined_symbols (before (all_commands (middle_commands layout numbers choices runs nodes root)) Nil))
-script_defines layout numbers choices runs nodes root =
+pub script_defines : (s : Source) → AreTermNames (defined_symbols (before (all_commands (middle_commands s)) Nil))
+script_defines s =
     let check = one (Atom (codes "check-sat")) in
-    let n = length nodes in
-    let bytes = run_assertions runs in
+    let n = length s.nodes in
+    let entry = run_assertions 0 s.kept s.known in
+    let head = head_assertions s.asks_head s.kept s.known in
     let last = assertion (term n) in
-    let says = definition n (Atom (codes "Bool")) (is_one root) ∷ (bytes ++ (last ∷ [])) in
-    let defined = node_definitions layout numbers 0 nodes in
-    let declared = all_declarations layout choices in
-    let s32 = word_sort (Atom (codes "32")) in
-    let s1 = word_sort (Atom (codes "1")) in
-    let s2 = word_sort (Atom (codes "2")) in
-    let cs = declarations s2 choices in
-    let ms = declaration (codes "mem") array_sort ∷ cs in
-    let fs = declarations s1 layout.flags in
-    let rs = declarations s32 layout.registers in
+    let says = last_commands s in
+    let defined = node_definitions s.layout s.numbers 0 s.nodes in
+    let ps = part_declarations s.layout 0 in
+    let hs = head_declarations s.layout s.heads in
+    let cs = declarations (word_sort (Atom (codes "2"))) (choices_of s) in
     let rest = before (defined ++ says) (one check) in
-    moved (before ((declared ++ (defined ++ says)) ++ (check ∷ [])) Nil) (before declared rest)
-    (before-append (declared ++ (defined ++ says)) (check ∷ []) Nil ∙ before-append declared (defined ++ says) (one check))
-    (moved (before declared rest) (before rs (before (fs ++ ms) rest)) (before-append rs (fs ++ ms) rest)
-    (declarations_define s32 layout.registers (before (fs ++ ms) rest)
-    (moved (before (fs ++ ms) rest) (before fs (before ms rest)) (before-append fs ms rest)
-    (declarations_define s1 layout.flags (before ms rest)
-    (declarations_define s2 choices rest
+    moved (before (((ps ++ (hs ++ cs)) ++ (defined ++ says)) ++ (check ∷ [])) Nil) (before (ps ++ (hs ++ cs)) rest)
+    (before-append ((ps ++ (hs ++ cs)) ++ (defined ++ says)) (check ∷ []) Nil ∙ before-append (ps ++ (hs ++ cs)) (defined ++ says) (one check))
+    (moved (before (ps ++ (hs ++ cs)) rest) (before ps (before (hs ++ cs) rest)) (before-append ps (hs ++ cs) rest)
+    (part_defines s.layout 0 (before (hs ++ cs) rest)
+    (moved (before (hs ++ cs) rest) (before hs (before cs rest)) (before-append hs cs rest)
+    (heads_define s.layout s.heads (before cs rest)
+    (declarations_define (word_sort (Atom (codes "2"))) (choices_of s) rest
     (moved rest (before defined (before says (one check))) (before-append defined says (one check))
-    (nodes_define layout numbers 0 nodes (before says (one check)) (
+    (nodes_define s.layout s.numbers 0 s.nodes (before says (one check)) (
       (n, refl),
-      moved (before (bytes ++ (last ∷ [])) (one check)) (before bytes (two last check)) (before-append bytes (last ∷ []) (one check))
-          (runs_define runs (two last check) tt),
+      moved (before ((entry ++ head) ++ (last ∷ [])) (one check)) (before entry (before head (two last check)))
+          (before-append (entry ++ head) (last ∷ []) (one check) ∙ before-append entry head (two last check))
+          (runs_define 0 s.kept s.known (before head (two last check)) (head_defines s.asks_head s.kept s.known (two last check) tt)),
     ))))))))

@@ -1,5 +1,5 @@
 -- The names of a script have the values of a reading.
-use Rattle.std.proofs.Common.{◌≡◌, ℕ, zero, suc, ◌+◌, ◌-◌, ◌^◌, ◌<◌, ◌≤◌, refl, ap, sym, ◌∙◌, arith, true, false, Bool, List, [], ◌∷◌, ◌++◌, Some, length, length-append, map, inl, inr}
+use Rattle.std.proofs.Common.{◌≡◌, ℕ, zero, suc, ◌+◌, ◌-◌, ◌^◌, ◌<◌, ◌≤◌, refl, ap, sym, ◌∙◌, arith, true, false, Bool, List, [], ◌∷◌, Some, length, length-append, map, inl, inr}
 use Rattle.std.specs.Prelude.{◌==◌, ◌||◌, not, nat_lt, codes, slice_get}
 use Rattle.std.specs.List.{list_all}
 use Rattle.std.specs.Str.{bytes_eq}
@@ -47,11 +47,15 @@ other_letter b v (c ∷ w) h k =
     let e : (b == c) ≡ false = grind (arith, nat_tests, h, n.0, n.1) in
     rw e refl
 
-pub not_lettered : (b : ℕ) (v : List ℕ) (names : List (List ℕ)) → ((b == 116) || (b == 99)) ≡ true → list_all is_own names ≡ true → among names (b ∷ v) ≡ false
-not_lettered b v [] h k = refl
-not_lettered b v (n ∷ ns) h k =
-    let t = both_true (is_own n) (list_all is_own ns) k in
-    rw (other_letter b v n h (own_of n t.0).plain, not_lettered b v ns h t.1) refl
+pub not_lettered : (p : List ℕ → Bool) → ((w : List ℕ) → p w ≡ true → is_lettered w ≡ false) → (b : ℕ) (v : List ℕ) (names : List (List ℕ)) →
+    ((b == 116) || (b == 99)) ≡ true → list_all p names ≡ true → among names (b ∷ v) ≡ false
+not_lettered p plain b v [] h k = refl
+not_lettered p plain b v (n ∷ ns) h k =
+    let t = both_true (p n) (list_all p ns) k in
+    rw (other_letter b v n h (plain n t.0), not_lettered p plain b v ns h t.1) refl
+
+pub own_plain : (w : List ℕ) → is_own w ≡ true → is_lettered w ≡ false
+own_plain w h = (own_of w h).plain
 
 pub not_memory : (names : List (List ℕ)) → list_all is_own names ≡ true → among names (codes "mem") ≡ false
 not_memory [] k = refl
@@ -60,19 +64,11 @@ not_memory (n ∷ ns) k =
     let f = other_text (codes "mem") n (λ e. absurd (cc (sym (ap (λ w. bytes_eq w (codes "mem")) (sym e)) ∙ (own_of n t.0).other))) in
     rw (f, not_memory ns t.1) refl
 
-pub all_left : (v w : List (List ℕ)) → list_all is_own (v ++ w) ≡ true → list_all is_own v ≡ true
-all_left [] w h = refl
-all_left (n ∷ v) w h = let t = both_true (is_own n) (list_all is_own (v ++ w)) h in rw (t.0, all_left v w t.1) refl
-
-pub all_right : (v w : List (List ℕ)) → list_all is_own (v ++ w) ≡ true → list_all is_own w ≡ true
-all_right [] w h = h
-all_right (n ∷ v) w h = all_right v w (both_true (is_own n) (list_all is_own (v ++ w)) h).1
-
 -- names of choices
 pub other_choice : (m n : ℕ) → m < 2 ^ 64 → n < 2 ^ 64 → (m ≡ n → ⊥) → bytes_eq (choice_name m) (choice_name n) ≡ false
 other_choice m n h k d = other_text (number_text m) (number_text n) (λ e. d (decimal_injective m n h k e))
 
-choice_place : (first count n : ℕ) → first ≤ n → n < first + count → first + count < 2 ^ 64 →
+pub choice_place : (first count n : ℕ) → first ≤ n → n < first + count → first + count < 2 ^ 64 →
     place_in (map choice_name (from_to first count)) (choice_name n) ≡ Some (n - first)
 choice_place first zero n h k s = absurd (omega (arith, h, k))
 choice_place first (suc count) n h k s = elim (cases_eq n first) [
@@ -84,29 +80,46 @@ choice_place first (suc count) n h k s = elim (cases_eq n first) [
       rw (f, choice_place (first + 1) count n l (omega (arith, k)) (omega (arith, s))) (ap Some z))
 ]
 
-module _ (layout : Layout) (usable : IsUsable layout) (points : List Point) (few : length points < 2 ^ 64) (r : Reading) where
-  -- the values of registers, by their numbers
-  pub register_is : (i : ℕ) → i < length layout.registers →
-      values_of layout points r (name_at layout.registers i) ≡ Some (WordValue 32 (r.state.regs (layout.first + i)))
-  register_is i l =
+module _ (layout : Layout) (usable : IsUsable layout) where
+  -- the places of registers among the names of values
+  pub register_place : (i : ℕ) → i < length layout.registers → place_in (value_names layout) (name_at layout.registers i) ≡ Some i
+  register_place i l =
       let n = get_or_append_left layout.registers layout.flags [] i l in
       let p = place_at (value_names layout) i usable.distinct (omega (arith, l, length-append layout.registers layout.flags)) in
-      let t : nat_lt i (length layout.registers) ≡ true = grind (arith, nat_tests) in
-      rw (ap (place_in (value_names layout)) (sym n) ∙ p, t) refl
+      ap (place_in (value_names layout)) (sym n) ∙ p
+
+  pub before_flags : (i : ℕ) → i < length layout.registers → nat_lt i (length layout.registers) ≡ true
+  before_flags i l = grind (arith, nat_tests)
 
   -- and of flags, of which the one with the highest number comes first
-  pub flag_is : (f : ℕ) → f < length layout.flags →
-      values_of layout points r (name_at layout.flags (length layout.flags - 1 - f)) ≡ Some (WordValue 1 (r.state.flags f))
-  flag_is f l =
+  pub flag_place : (f : ℕ) → f < length layout.flags →
+      place_in (value_names layout) (name_at layout.flags (length layout.flags - 1 - f)) ≡ Some (length layout.registers + (length layout.flags - 1 - f))
+  flag_place f l =
       let j = length layout.flags - 1 - f in
       let i = length layout.registers + j in
       let a = length-append layout.registers layout.flags in
       let b : i - length layout.registers ≡ j = omega arith in
       let n = get_or-append_right layout.registers layout.flags (length layout.registers) i [] refl (omega arith) ∙ ap (name_at layout.flags) b in
       let p = place_at (value_names layout) i usable.distinct (omega (arith, l, a)) in
-      let t : nat_lt i (length layout.registers) ≡ false = grind (arith, nat_tests) in
-      let z : length (value_names layout) - 1 - i ≡ f = omega (arith, l, a) in
-      rw (ap (place_in (value_names layout)) (sym n) ∙ p, t, z) refl
+      ap (place_in (value_names layout)) (sym n) ∙ p
+
+  pub behind_registers : (j : ℕ) → nat_lt (length layout.registers + j) (length layout.registers) ≡ false
+  behind_registers j = grind (arith, nat_tests)
+
+  pub flag_back : (f : ℕ) → f < length layout.flags → length (value_names layout) - 1 - (length layout.registers + (length layout.flags - 1 - f)) ≡ f
+  flag_back f l = omega (arith, l, length-append layout.registers layout.flags)
+
+module _ (layout : Layout) (usable : IsUsable layout) (points : List Point) (few : length points < 2 ^ 64) (r : Reading) where
+  -- the values of registers, by their numbers
+  pub register_is : (i : ℕ) → i < length layout.registers →
+      values_of layout points r (name_at layout.registers i) ≡ Some (WordValue 32 (r.state.regs (layout.first + i)))
+  register_is i l = rw (register_place layout usable i l, before_flags layout usable i l) refl
+
+  -- and of flags
+  pub flag_is : (f : ℕ) → f < length layout.flags →
+      values_of layout points r (name_at layout.flags (length layout.flags - 1 - f)) ≡ Some (WordValue 1 (r.state.flags f))
+  flag_is f l =
+      rw (flag_place layout usable f l, behind_registers layout usable (length layout.flags - 1 - f), flag_back layout usable f l) refl
 
   pub memory_is : values_of layout points r (codes "mem") ≡ Some (ArrayValue r.state.mem)
   memory_is = rw (place_none (value_names layout) (codes "mem") (not_memory (value_names layout) usable.own)) refl
@@ -116,7 +129,7 @@ module _ (layout : Layout) (usable : IsUsable layout) (points : List Point) (few
   choice_is n q l e =
       let z : n - 0 ≡ n = omega arith in
       rw (
-        place_none (value_names layout) (choice_name n) (not_lettered 99 (number_text n) (value_names layout) refl usable.own),
+        place_none (value_names layout) (choice_name n) (not_lettered is_own own_plain 99 (number_text n) (value_names layout) refl usable.own),
         choice_place 0 (length points) n (omega arith) (omega (arith, l)) (omega (arith, few)),
         z,
         e,

@@ -1,27 +1,21 @@
--- What a whole script says of a reading.
-use Rattle.std.proofs.Common.{◌≡◌, ℕ, suc, ◌+◌, ◌-◌, ◌^◌, ◌<◌, refl, ap, sym, ◌∙◌, subst, arith, true, false, List, [], ◌∷◌, ◌++◌, Option, Some, None, length, map}
-use Rattle.std.specs.Prelude.{◌==◌, ◌&&◌, ◌||◌, nat_lt, codes, slice_index}
+-- What a whole script says of values of its symbols.
+use Rattle.std.proofs.Common.{◌≡◌, ℕ, suc, ◌+◌, ◌-◌, ◌^◌, ◌<◌, refl, ap, sym, ◌∙◌, subst, arith, true, false, Bool, List, [], ◌∷◌, ◌++◌, Option, Some, None, length}
+use Rattle.std.specs.Prelude.{◌==◌, ◌&&◌, nat_lt, codes, slice_index}
 use Rattle.std.proofs.lemmas.Bool.Decides.{nat_tests}
-use Rattle.bilv_spec.specs.Points.{Point}
-use Rattle.bilv_spec.specs.Questions.{Reading, IsReading}
-use Rattle.bilv_spec.specs.Scripts.{values_of}
-use Rattle.machine_spec.specs.StateText.{Layout}
 use Rattle.bilv_spec.specs.SmtLib.{Sexp, Atom, Nil, SmtValue, TruthValue, WordValue, ArrayValue, atom_value, binds, truth_of}
 use Rattle.word_spec.specs.Texts.{number_text}
 use Rattle.term_spec.specs.Terms as terms
-use Rattle.term_spec.specs.Terms.{TermReading, InRange, TermNode, HasWidth, AreTyped}
-use Rattle.walk_spec.specs.Unrolled.{ByteRun, UnrolledProgram, point_at}
-use Rattle.term_spec.specs.WalkQuestions.{term_reading}
-use Rattle.smtlib_print.specs.Commands.{term_name, term, word_sort, array_sort, declaration, declarations, drawn, all_declarations, node_definitions, run_assertions, definition, assertion, is_one, held_runs, middle_commands, all_commands}
-use Rattle.smtlib_print.specs.Scripted.{AreNumbers, FitMemory}
+use Rattle.term_spec.specs.Terms.{TermReading, InRange}
+use Rattle.smtlib_print.specs.Commands.{Source, term_name, term, word_sort, array_sort, declaration, declarations, part_declarations, head_declarations, all_declarations, choices_of, node_definitions, run_assertions, head_assertions, assertion, held_runs, held_head, last_commands, memory_name, middle_commands, part_name, part_names, all_commands}
 use Rattle.smtlib_print.specs.Written.{one, two, before}
-use Rattle.smtlib_print.proofs.Asserted.{before-append, assert_runs, assertion_truth, root_step}
-use Rattle.smtlib_print.proofs.Declared.{are_new, AreSorted, IsSorted, IsDeclaring, declare_all, onto, onto_none, onto_done}
-use Rattle.smtlib_print.proofs.Defined.{among, Apart, Stands, IsNamed, AreInputsOf, define_nodes, bound_here, stands_on}
+use Rattle.smtlib_print.proofs.Asserted.{assert_head, assert_runs, assertion_truth, root_step}
+use Rattle.smtlib_print.proofs.Declared.{AreDeclared, AreSorted, IsDeclaring, IsSorted, are_new, before-append, declare_all, declare_both, declared_as, new_both, onto, onto-append, onto_none}
+use Rattle.smtlib_print.proofs.Defined.{among, Apart, Stands, define_nodes, bound_here, stands_on}
 use Rattle.smtlib_print.proofs.Drawn.{drawn_sorted, drawn_new, drawn_apart}
-use Rattle.smtlib_print.proofs.Layouts.{IsUsable, name_at}
+use Rattle.smtlib_print.proofs.Inputs.{are_inputs, memory_input}
+use Rattle.smtlib_print.proofs.Layouts.{head_parts, name_at, part_at, part_count, part_symbols}
 use Rattle.smtlib_print.proofs.Names.{term_symbol, symbol_value, other_text}
-use Rattle.smtlib_print.proofs.Valued.{all_left, all_right, not_lettered, not_memory, register_is, flag_is, memory_is, choice_is}
+use Rattle.smtlib_print.proofs.Sources.{HasValues, IsFormed, IsOfScript, declared_names, lettered_none, names_before}
 
 sorted_by : (model : List ℕ → Option SmtValue) (sort : Sexp) (names : List (List ℕ)) → ((i : ℕ) → i < length names → IsSorted model sort (name_at names i)) →
     AreSorted model sort names
@@ -39,144 +33,120 @@ choice_sorted : (model : List ℕ → Option SmtValue) (w : List ℕ) (v : ℕ) 
     IsSorted model (word_sort (Atom (codes "2"))) w
 choice_sorted model w v h e = let l : nat_lt v (2 ^ 2) ≡ true = grind (arith, nat_tests) in record { value = WordValue 2 v; is = e; sort_is = l }
 
-term_range : (u : UnrolledProgram) (r : Reading) → IsReading r → InRange (term_reading u r)
-term_range u r is = record {
-  regs = λ p. is.state.regs;
-  flags = λ p. is.state.flags;
-  mem = λ p. is.state.mem;
-  choice = λ i. is.choice (point_at u i).point;
-  base = λ p j. omega arith;
-}
+module _ (s : Source) (formed : IsFormed s) (x : TermReading) (range : InRange x) (model : List ℕ → Option SmtValue) (values : HasValues s x model) where
+  registers_sorted : (p : ℕ) → IsOfScript s.heads p → AreSorted model (word_sort (Atom (codes "32"))) (part_names p s.layout.registers)
+  registers_sorted p of = sorted_by model (word_sort (Atom (codes "32"))) (part_names p s.layout.registers)
+      (λ i l. let k : i < length s.layout.registers = omega (arith, l, part_count p s.layout.registers) in
+      word_sorted model (name_at (part_names p s.layout.registers) i) (x.regs p (s.layout.first + i)) (range.regs p (s.layout.first + i))
+      (ap model (part_at p s.layout.registers i k) ∙ values.registers p i of k))
 
--- the declared names, the last first
-abbrev pub declared_names : Layout → List (List ℕ) → List (List ℕ)
-declared_names layout choices = onto (codes "mem" ∷ onto (onto [] layout.registers) layout.flags) choices
+  flags_sorted : (p : ℕ) → IsOfScript s.heads p → AreSorted model (word_sort (Atom (codes "1"))) (part_names p s.layout.flags)
+  flags_sorted p of = sorted_by model (word_sort (Atom (codes "1"))) (part_names p s.layout.flags)
+      (λ i l. let k : i < length s.layout.flags = omega (arith, l, part_count p s.layout.flags) in
+      let f = length s.layout.flags - 1 - i in
+      let e : length s.layout.flags - 1 - f ≡ i = omega (arith, k) in
+      bit_sorted model (name_at (part_names p s.layout.flags) i) (x.flags p f) (range.flags p f)
+      (ap model (part_at p s.layout.flags i k) ∙ ap (λ j. model (part_name p (name_at s.layout.flags j))) (sym e)
+      ∙ values.flags p f of (omega (arith, k))))
 
-module _ (u : UnrolledProgram) (layout : Layout) (usable : IsUsable layout) (points : List Point) (numbers : List ℕ) (are : AreNumbers u points numbers)
-    (r : Reading) (is : IsReading r) where
-  model : List ℕ → Option SmtValue
-  model = values_of layout points r
+  choices_sorted : AreSorted model (word_sort (Atom (codes "2"))) (choices_of s)
+  choices_sorted = drawn_sorted model (word_sort (Atom (codes "2"))) s.numbers s.draws
+      (λ i l. choice_sorted model _ (x.choice i) (range.choice i) (values.choices i l))
 
-  -- the names of the choices
-  abbrev choices : List (List ℕ)
-  choices = drawn numbers (map (λ q. q.draws) u.points)
+  choices_new : are_new (names_before s) (choices_of s) ≡ true
+  choices_new =
+      drawn_new (names_before s) s.numbers s.draws formed.few (λ i l. lettered_none s formed 99 (number_text (slice_index s.numbers i)) refl) formed.distinct
 
-  registers_sorted : AreSorted (values_of layout points r) (word_sort (Atom (codes "32"))) layout.registers
-  registers_sorted = sorted_by _ _ layout.registers
-      (λ i l. word_sorted _ _ (r.state.regs (layout.first + i)) (is.state.regs (layout.first + i)) (register_is layout usable points are.few r i l))
+  -- the declarations of a part
+  part_declared : (p : ℕ) → IsOfScript s.heads p → (done : List (List ℕ)) (symbols : List ℕ → Option SmtValue) → AreDeclared model symbols done →
+      are_new done (part_symbols s.layout p) ≡ true → IsDeclaring model symbols (onto done (part_symbols s.layout p)) (part_declarations s.layout p)
+  part_declared p of done symbols d new =
+      let rs = part_names p s.layout.registers in
+      let fs = part_names p s.layout.flags in
+      let ms = memory_name p ∷ [] in
+      let n = new_both done rs (fs ++ ms) new in
+      let m = new_both (onto done rs) fs ms n.1 in
+      let a = declare_all model (word_sort (Atom (codes "32"))) rs done symbols (registers_sorted p of) n.0 d in
+      let b = declare_all model (word_sort (Atom (codes "1"))) fs (onto done rs) a.after (flags_sorted p of) m.0 a.declared in
+      let c = declare_all model array_sort ms (onto (onto done rs) fs) b.after
+      (record { value = ArrayValue (x.mem p); is = values.memory p of; sort_is = refl }, tt) m.1 b.declared in
+      declared_as model symbols (onto (onto (onto done rs) fs) ms) (onto done (rs ++ (fs ++ ms))) (part_declarations s.layout p)
+      (sym (onto-append done rs (fs ++ ms) ∙ onto-append (onto done rs) fs ms))
+      (declare_both model symbols (onto done rs) (onto (onto (onto done rs) fs) ms) (declarations (word_sort (Atom (codes "32"))) rs)
+      (declarations (word_sort (Atom (codes "1"))) fs ++ (declaration (memory_name p) array_sort ∷ [])) a
+      (declare_both model a.after (onto (onto done rs) fs) (onto (onto (onto done rs) fs) ms) (declarations (word_sort (Atom (codes "1"))) fs)
+      (declaration (memory_name p) array_sort ∷ []) b c))
 
-  flags_sorted : AreSorted (values_of layout points r) (word_sort (Atom (codes "1"))) layout.flags
-  flags_sorted = sorted_by _ _ layout.flags
-      (λ i l. let f = length layout.flags - 1 - i in
-      let e : length layout.flags - 1 - f ≡ i = omega (arith, l) in
-      bit_sorted _ _ (r.state.flags f) (is.state.flags f)
-      (ap (λ j. values_of layout points r (name_at layout.flags j)) (sym e) ∙ flag_is layout usable points are.few r f (omega (arith, l))))
+  -- those of the head
+  head_declared : (heads : Bool) → (heads ≡ true → s.heads ≡ true) → (done : List (List ℕ)) (symbols : List ℕ → Option SmtValue) →
+      AreDeclared model symbols done → are_new done (head_parts s.layout heads) ≡ true →
+      IsDeclaring model symbols (onto done (head_parts s.layout heads)) (head_declarations s.layout heads)
+  head_declared false of done symbols d new = record { after = symbols; declared = d; runs = λ rest. refl }
+  head_declared true of done symbols d new = part_declared 1 (of refl) done symbols d new
 
-  choices_sorted : AreSorted (values_of layout points r) (word_sort (Atom (codes "2"))) choices
-  choices_sorted = drawn_sorted _ _ numbers (map (λ q. q.draws) u.points)
-      (λ i l. choice_sorted _ _ (r.choice (point_at u i).point) (is.choice (point_at u i).point)
-      (choice_is layout usable points are.few r (slice_index numbers i) (point_at u i).point (are.within i l) (are.at i l)))
-
-  -- what is declared before the choices has none of their names, and none of a term
-  lettered_none : (b : ℕ) (v : List ℕ) → ((b == 116) || (b == 99)) ≡ true → among (onto (onto [] layout.registers) layout.flags) (b ∷ v) ≡ false
-  lettered_none b v h =
-      onto_none (onto [] layout.registers) layout.flags (b ∷ v)
-      (onto_none [] layout.registers (b ∷ v) refl (not_lettered b v layout.registers h (all_left layout.registers layout.flags usable.own)))
-      (not_lettered b v layout.flags h (all_right layout.registers layout.flags usable.own))
-
-  memory_none : among (onto (onto [] layout.registers) layout.flags) (codes "mem") ≡ false
-  memory_none =
-      onto_none (onto [] layout.registers) layout.flags (codes "mem")
-      (onto_none [] layout.registers (codes "mem") refl (not_memory layout.registers (all_left layout.registers layout.flags usable.own)))
-      (not_memory layout.flags (all_right layout.registers layout.flags usable.own))
-
-  term_none : (t : ℕ) → among (declared_names layout choices) (term_name t) ≡ false
-  term_none t =
-      onto_none (codes "mem" ∷ onto (onto [] layout.registers) layout.flags) choices (term_name t) (lettered_none 116 (number_text t) refl)
-      (drawn_apart numbers (map (λ q. q.draws) u.points) t)
-
-  choices_new : are_new (codes "mem" ∷ onto (onto [] layout.registers) layout.flags) choices ≡ true
-  choices_new = drawn_new (codes "mem" ∷ onto (onto [] layout.registers) layout.flags) numbers (map (λ q. q.draws) u.points)
-      (λ i l. omega (arith, are.within i l, are.few)) (λ i l. lettered_none 99 (number_text (slice_index numbers i)) refl) are.distinct
-
-  all_declared : IsDeclaring (values_of layout points r) (λ w. None) (declared_names layout choices) (all_declarations layout choices)
+  all_declared : IsDeclaring model (λ w. None) (declared_names s) (all_declarations s.layout s.heads (choices_of s))
   all_declared =
-      let a = declare_all (values_of layout points r) (word_sort (Atom (codes "32"))) layout.registers [] (λ w. None) registers_sorted usable.registers
-      (λ w. refl) in
-      let b = declare_all (values_of layout points r) (word_sort (Atom (codes "1"))) layout.flags (onto [] layout.registers) a.after flags_sorted usable.flags
-      a.declared in
-      let c = declare_all (values_of layout points r) array_sort (codes "mem" ∷ []) (onto (onto [] layout.registers) layout.flags) b.after
-      (record { value = ArrayValue r.state.mem; is = memory_is layout usable points are.few r; sort_is = refl }, tt) (rw memory_none refl) b.declared in
-      let d = declare_all (values_of layout points r) (word_sort (Atom (codes "2"))) choices (codes "mem" ∷ onto (onto [] layout.registers) layout.flags)
-      c.after
-      choices_sorted choices_new c.declared in
-      let cs = declarations (word_sort (Atom (codes "2"))) choices in
-      let ms = declaration (codes "mem") array_sort ∷ cs in
-      let fs = declarations (word_sort (Atom (codes "1"))) layout.flags in
-      let rs = declarations (word_sort (Atom (codes "32"))) layout.registers in
-      record {
-        after = d.after;
-        declared = d.declared;
-        runs = λ rest.
-            ap (truth_of (values_of layout points r) (λ w. None)) (before-append rs (fs ++ ms) rest)
-            ∙ a.runs (before (fs ++ ms) rest)
-            ∙ ap (truth_of (values_of layout points r) a.after) (before-append fs ms rest)
-            ∙ b.runs (before ms rest) ∙ c.runs (before cs rest) ∙ d.runs rest;
-      }
+      let n = new_both [] (part_symbols s.layout 0) (head_parts s.layout s.heads) (formed.usable.new s.heads) in
+      let a = part_declared 0 tt [] (λ w. None) (λ w. refl) n.0 in
+      let b = head_declared s.heads (λ e. e) (onto [] (part_symbols s.layout 0)) a.after a.declared n.1 in
+      let c = declare_all model (word_sort (Atom (codes "2"))) (choices_of s) (names_before s) b.after choices_sorted choices_new b.declared in
+      let cs = declarations (word_sort (Atom (codes "2"))) (choices_of s) in
+      declare_both model (λ w. None) (onto [] (part_symbols s.layout 0)) (declared_names s) (part_declarations s.layout 0)
+      (head_declarations s.layout s.heads ++ cs) a
+      (declare_both model a.after (names_before s) (declared_names s) (head_declarations s.layout s.heads) cs b c)
 
-  stands : Stands (values_of layout points r) all_declared.after (declared_names layout choices) 0
+  term_none : (t : ℕ) → among (declared_names s) (term_name t) ≡ false
+  term_none t = onto_none (names_before s) (choices_of s) (term_name t) (lettered_none s formed 116 (number_text t) refl) (drawn_apart s.numbers s.draws t)
+
+  stands : Stands model all_declared.after (declared_names s) 0
   stands = record {
     inputs = λ w m. all_declared.declared w ∙ rw m refl;
     fresh = λ t l k. all_declared.declared (term_name t) ∙ rw (term_none t) refl;
   }
 
-  apart : Apart (declared_names layout choices)
-  apart w t m = other_text w (term_name t) (λ e. absurd (cc (sym (sym (ap (among (declared_names layout choices)) e) ∙ m) ∙ term_none t)))
+  apart : Apart (declared_names s)
+  apart w t m = other_text w (term_name t) (λ e. absurd (cc (sym (sym (ap (among (declared_names s)) e) ∙ m) ∙ term_none t)))
 
-  module _ (nodes : List TermNode) (root : ℕ) (typed : AreTyped nodes) (few : length nodes < 2 ^ 32) (root_is : HasWidth nodes 1 root)
-      (inputs : AreInputsOf (values_of layout points r) (declared_names layout choices) layout numbers (term_reading u r) nodes)
-      (runs : List ByteRun) (fit : FitMemory runs) where
-    -- the memory is a symbol
-    memory_named : IsNamed (values_of layout points r) (declared_names layout choices) (codes "mem") (ArrayValue r.state.mem)
-    memory_named = record {
-      named = onto_done (codes "mem" ∷ onto (onto [] layout.registers) layout.flags) choices (codes "mem") refl;
-      symbol = refl;
-      value = memory_is layout usable points are.few r;
-    }
+  -- the value of the bit that is meant
+  abbrev pub meant : Bool
+  meant = terms.term_word x s.nodes s.root == 1
 
-    -- what the script says: the bit is 1, and the bytes are those of the runs
-    pub whole_truth : truth_of (values_of layout points r) (λ w. None) (before (all_commands (middle_commands layout numbers choices runs nodes root)) Nil)
-        ≡ Some (held_runs r.state.mem runs ((terms.term_word (term_reading u r) nodes root == 1) && true))
-    whole_truth =
-        let m = values_of layout points r in
-        let names = declared_names layout choices in
-        let x = term_reading u r in
-        let reached = define_nodes m names layout numbers x (term_range u r is) apart memory_named [] nodes 0 all_declared.after refl (omega (arith, few)) tt
-        typed inputs stands
-        (record { terms = λ t l. absurd (omega (arith, l)) }) in
-        let n = length nodes in
-        let there : Stands m reached.after names n = subst (Stands m reached.after names) (omega arith) reached.stands in
-        let word = terms.term_word x nodes root in
-        let bit : atom_value reached.after (term_name root) ≡ Some (WordValue 1 word) =
-        symbol_value reached.after (term_name root) (term_symbol root (omega (arith, root_is.0, few)))
-        ∙ subst (λ (k : ℕ). reached.after (term_name root) ≡ Some (WordValue k word)) root_is.1
-        ((reached.knows.terms root root_is.0).word (omega (arith, root_is.1))) in
-        let after_root = binds reached.after (term_name n) (TruthValue (word == 1)) in
-        let stays = stands_on m reached.after names n (TruthValue (word == 1)) apart (omega (arith, few)) there in
-        let check = one (Atom (codes "check-sat")) in
-        let last = assertion (term n) in
-        let bytes = run_assertions runs in
-        let truth = definition n (Atom (codes "Bool")) (is_one root) in
-        let says = truth ∷ (bytes ++ (last ∷ [])) in
-        let defined = node_definitions layout numbers 0 nodes in
-        let declared = all_declarations layout choices in
-        let none : List ℕ → Option SmtValue = λ w. None in
-        ap (truth_of m none) (before-append (declared ++ (defined ++ says)) (check ∷ []) Nil)
-        ∙ ap (truth_of m none) (before-append declared (defined ++ says) (one check))
-        ∙ all_declared.runs (before (defined ++ says) (one check))
-        ∙ ap (truth_of m all_declared.after) (before-append defined says (one check))
-        ∙ reached.runs (before says (one check))
-        ∙ root_step m reached.after n root word (before (bytes ++ (last ∷ [])) (one check)) (there.fresh n (omega arith) (omega (arith, few))) bit
-        ∙ ap (truth_of m after_root) (before-append bytes (last ∷ []) (one check))
-        ∙ assert_runs m after_root names r.state.mem memory_named (suc n) stays runs fit (two last check) ((word == 1) && true)
-        (assertion_truth m after_root n (word == 1) (omega (arith, few)) (bound_here reached.after n (TruthValue (word == 1))))
+  -- what the script says: the bit is 1, and the bytes are those of the file
+  pub whole_truth : truth_of model (λ w. None) (before (all_commands (middle_commands s)) Nil)
+      ≡ Some (held_runs 0 s.kept (x.mem 0) s.known (held_head s.asks_head s.kept (x.mem 1) s.known (meant && true)))
+  whole_truth =
+      let names = declared_names s in
+      let reached = define_nodes model names s.layout s.numbers x range apart [] s.nodes 0 all_declared.after refl (omega (arith, formed.small)) tt
+      formed.typed (are_inputs s formed x model values) stands
+      (record { terms = λ t l. absurd (omega (arith, l)) }) in
+      let n = length s.nodes in
+      let there : Stands model reached.after names n = subst (Stands model reached.after names) (omega arith) reached.stands in
+      let word = terms.term_word x s.nodes s.root in
+      let bit : atom_value reached.after (term_name s.root) ≡ Some (WordValue 1 word) =
+      symbol_value reached.after (term_name s.root) (term_symbol s.root (omega (arith, formed.root.0, formed.small)))
+      ∙ subst (λ (k : ℕ). reached.after (term_name s.root) ≡ Some (WordValue k word)) formed.root.1
+      ((reached.knows.terms s.root formed.root.0).word (omega (arith, formed.root.1))) in
+      let after_root = binds reached.after (term_name n) (TruthValue (word == 1)) in
+      let stays = stands_on model reached.after names n (TruthValue (word == 1)) apart (omega (arith, formed.small)) there in
+      let check = one (Atom (codes "check-sat")) in
+      let last = assertion (term n) in
+      let entry = run_assertions 0 s.kept s.known in
+      let head = head_assertions s.asks_head s.kept s.known in
+      let says = last_commands s in
+      let defined = node_definitions s.layout s.numbers 0 s.nodes in
+      let declared = all_declarations s.layout s.heads (choices_of s) in
+      let none : List ℕ → Option SmtValue = λ w. None in
+      ap (truth_of model none) (before-append (declared ++ (defined ++ says)) (check ∷ []) Nil)
+      ∙ ap (truth_of model none) (before-append declared (defined ++ says) (one check))
+      ∙ all_declared.runs (before (defined ++ says) (one check))
+      ∙ ap (truth_of model all_declared.after) (before-append defined says (one check))
+      ∙ reached.runs (before says (one check))
+      ∙ root_step model reached.after n s.root word (before ((entry ++ head) ++ (last ∷ [])) (one check))
+      (there.fresh n (omega arith) (omega (arith, formed.small))) bit
+      ∙ ap (truth_of model after_root) (before-append (entry ++ head) (last ∷ []) (one check))
+      ∙ ap (truth_of model after_root) (before-append entry head (two last check))
+      ∙ assert_runs model after_root names 0 s.kept (x.mem 0) (memory_input s formed x model values 0 tt) (suc n) stays s.known formed.fit
+      (before head (two last check)) (held_head s.asks_head s.kept (x.mem 1) s.known ((word == 1) && true))
+      (assert_head model after_root names s.kept (x.mem 1) (suc n) stays s.asks_head (λ e. memory_input s formed x model values 1 (formed.asks e)) s.known
+      formed.fit (two last check) ((word == 1) && true)
+      (assertion_truth model after_root n (word == 1) (omega (arith, formed.small)) (bound_here reached.after n (TruthValue (word == 1)))))

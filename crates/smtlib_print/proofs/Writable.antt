@@ -7,15 +7,15 @@ use Rattle.std.proofs.lemmas.List.Folds.{list_all-append}
 use Rattle.word_spec.specs.Memory.{Endian, Little, Big, place}
 use Rattle.machine_spec.specs.Bil.{BinaryOp, Plus, Minus, Times, Divide, SignedDivide, Modulo, SignedModulo, And, Or, Xor, ShiftLeft, ShiftRight, ShiftSigned, Equal, NotEqual, Less, LessEqual, SignedLess, SignedLessEqual}
 use Rattle.bilv_spec.specs.Scripts.{choice_name}
-use Rattle.bilv_spec.specs.SmtLib.{Sexp}
+use Rattle.bilv_spec.specs.SmtLib.{Sexp, Atom}
 use Rattle.machine_spec.specs.StateText.{Layout}
 use Rattle.word_spec.specs.Texts.{hex_digit, hex_digits}
 use Rattle.term_spec.specs.Terms as terms
 use Rattle.term_spec.specs.Terms.{TermNode, HasWidth, IsTypedOver, AreTypedFrom, width_of}
-use Rattle.walk_spec.specs.Unrolled.{ByteRun}
+use Rattle.walk_spec.specs.Unrolled.{AddressRun, ByteRun}
 use Rattle.term_dag.proofs.ListLaws.{last, longer, typed_push}
 use Rattle.term_dag.proofs.Shapes.{few_bits}
-use Rattle.smtlib_print.specs.Commands.{binary_digits, constant_text, operation, behind, loading, storing, extract, extend, node_term, sort_of, node_definitions, assertion, has_byte, byte_assertions, run_assertions, declarations, selected, choose}
+use Rattle.smtlib_print.specs.Commands.{file_assertions, head_assertions, part_declarations, part_names, word_sort, is_of_part, memory_name, part_name, binary_digits, constant_text, operation, behind, loading, storing, extract, extend, node_term, sort_of, node_definitions, assertion, has_byte, byte_assertions, run_assertions, declarations, selected, choose}
 use Rattle.smtlib_print.proofs.Names.{number_word, term_word}
 use Rattle.smtlib_print.proofs.ReadBack.{is_inner, is_word, IsWritable, AreWritable, AreWritable-append}
 
@@ -107,10 +107,19 @@ storing_writable e n m a v (suc i) s l h k q =
 choose_writable : (c a b : ℕ) → Few c → Few a → Few b → IsWritable (choose c a b)
 choose_writable c a b h k l = (refl, ((refl, (term_word c h, (refl, tt))), (term_word a k, (term_word b l, tt))))
 
+-- a name with what a part has before it
+pub part_word : (p : ℕ) (w : List ℕ) → is_word w ≡ true → is_word (part_name p w) ≡ true
+part_word zero w h = h
+part_word (suc p) [] h = absurd (cc h)
+part_word (suc p) (b ∷ w) h = h
+
+memory_word : (p : ℕ) → is_word (memory_name p) ≡ true
+memory_word p = part_word p (codes "mem") refl
+
 -- the name of an input is a word
 abbrev pub HasWord : Layout → (numbers : List ℕ) → TermNode → Type 0
-HasWord layout numbers (terms.RegisterNode p r) = is_word (slice_index_or layout.registers (r - layout.first) []) ≡ true
-HasWord layout numbers (terms.FlagNode p f) = is_word (slice_index_or layout.flags (length layout.flags - 1 - f) []) ≡ true
+HasWord layout numbers (terms.RegisterNode p r) = is_word (part_name p (slice_index_or layout.registers (r - layout.first) [])) ≡ true
+HasWord layout numbers (terms.FlagNode p f) = is_word (part_name p (slice_index_or layout.flags (length layout.flags - 1 - f) [])) ≡ true
 HasWord layout numbers (terms.ChoiceNode i) = is_word (choice_name (slice_index numbers i)) ≡ true
 HasWord layout numbers n = Unit {0}
 
@@ -125,7 +134,7 @@ node_writable layout numbers bs (terms.RegisterNode p r) t s h w = w
 node_writable layout numbers bs (terms.FlagNode p f) t s h w = w
 node_writable layout numbers bs (terms.ChoiceNode i) t s h w = w
 node_writable layout numbers bs (terms.BaseNode p j) t s h w = hex_inners 2 0
-node_writable layout numbers bs (terms.MemoryNode p) t s h w = refl
+node_writable layout numbers bs (terms.MemoryNode p) t s h w = memory_word p
 node_writable layout numbers bs (terms.ConstantNode n v) t s h w = constant_word n v
 node_writable layout numbers bs (terms.BinaryNode o n a b) t s h w = operation_writable o n a b (omega (arith, s, h.1.0)) (omega (arith, s, h.2.0))
 node_writable layout numbers bs (terms.NotNode n a) t s h w = (refl, (term_word a (omega (arith, s, h.1.0)), tt))
@@ -167,16 +176,31 @@ nodes_writable layout numbers bs (n ∷ ns) at e s t f w =
       nodes_writable layout numbers (bs ++ n ∷ []) ns (suc at) (omega (arith, l, e)) (omega (arith, l, s)) whole f.1 w.1,
     )
 
-byte_writable : (a v : ℕ) → IsWritable (assertion (has_byte a v))
-byte_writable a v = (refl, ((refl, ((refl, (refl, (hex_inners 8 a, tt))), (hex_inners 2 v, tt))), tt))
+byte_writable : (p a v : ℕ) → IsWritable (assertion (has_byte p a v))
+byte_writable p a v = (refl, ((refl, ((refl, (memory_word p, (hex_inners 8 a, tt))), (hex_inners 2 v, tt))), tt))
 
-bytes_writable : (r : ByteRun) (n i : ℕ) → AreWritable (byte_assertions r i n)
-bytes_writable r zero i = tt
-bytes_writable r (suc n) i = (byte_writable (r.at + i) (slice_index r.bytes i), bytes_writable r n (suc i))
+one_writable : (asked : Bool) (c : Sexp) (cs : List Sexp) → IsWritable c → AreWritable cs → AreWritable (if asked then c ∷ cs else cs)
+one_writable true c cs h k = (h, k)
+one_writable false c cs h k = k
 
-pub runs_writable : (rs : List ByteRun) → AreWritable (run_assertions rs)
-runs_writable [] = tt
-runs_writable (r ∷ rs) = AreWritable-append (byte_assertions r 0 r.count) (run_assertions rs) (bytes_writable r r.count 0) (runs_writable rs)
+bytes_writable : (p : ℕ) (kept : List AddressRun) (r : ByteRun) (n i : ℕ) → AreWritable (byte_assertions p kept r i n)
+bytes_writable p kept r zero i = tt
+bytes_writable p kept r (suc n) i =
+    one_writable (is_of_part p kept (r.at + i)) _ (byte_assertions p kept r (suc i) n) (byte_writable p (r.at + i) (slice_index r.bytes i))
+    (bytes_writable p kept r n (suc i))
+
+runs_writable : (p : ℕ) (kept : List AddressRun) (rs : List ByteRun) → AreWritable (run_assertions p kept rs)
+runs_writable p kept [] = tt
+runs_writable p kept (r ∷ rs) =
+    AreWritable-append (byte_assertions p kept r 0 r.count) (run_assertions p kept rs) (bytes_writable p kept r r.count 0) (runs_writable p kept rs)
+
+head_writable : (asked : Bool) (kept : List AddressRun) (rs : List ByteRun) → AreWritable (head_assertions asked kept rs)
+head_writable false kept rs = tt
+head_writable true kept rs = runs_writable 1 kept rs
+
+pub file_writable : (asked : Bool) (kept : List AddressRun) (rs : List ByteRun) → AreWritable (file_assertions asked kept rs)
+file_writable asked kept rs =
+    AreWritable-append (run_assertions 0 kept rs) (head_assertions asked kept rs) (runs_writable 0 kept rs) (head_writable asked kept rs)
 
 -- each name is a word
 abbrev pub AreWords : List (List ℕ) → Type 0
@@ -186,3 +210,16 @@ AreWords (w ∷ ws) = (is_word w ≡ true) × AreWords ws
 pub declarations_writable : (sort : Sexp) (names : List (List ℕ)) → IsWritable sort → AreWords names → AreWritable (declarations sort names)
 declarations_writable sort [] s h = tt
 declarations_writable sort (w ∷ ws) s h = ((refl, (h.0, (s, tt))), declarations_writable sort ws s h.1)
+
+-- the declarations of a part
+pub part_writable : (layout : Layout) (p : ℕ) → AreWords (part_names p layout.registers) → AreWords (part_names p layout.flags) →
+    AreWritable (part_declarations layout p)
+part_writable layout p registers flags =
+    let word_is : IsWritable (word_sort (Atom (codes "32"))) = (refl, (refl, (refl, tt))) in
+    let bit_is : IsWritable (word_sort (Atom (codes "1"))) = (refl, (refl, (refl, tt))) in
+    let byte_is : IsWritable (word_sort (Atom (codes "8"))) = (refl, (refl, (refl, tt))) in
+    AreWritable-append _ _ (declarations_writable _ (part_names p layout.registers) word_is registers)
+    (AreWritable-append _ _ (declarations_writable _ (part_names p layout.flags) bit_is flags) (
+      (refl, (memory_word p, ((refl, (word_is, (byte_is, tt))), tt))),
+      tt,
+    ))

@@ -7,7 +7,8 @@ use Rattle.machine_spec.specs.StateText.{Layout}
 use Rattle.bilv_spec.specs.Scripts.{choice_name}
 use Rattle.bilv_spec.specs.SmtLib.{Sexp, Atom, Nil}
 use Rattle.term_spec.specs.Terms.{TermNode, RegisterNode, FlagNode, ChoiceNode, BaseNode, MemoryNode, ConstantNode, BinaryNode, NotNode, SelectNode, ExtractNode, ConcatNode, ExtendNode, LoadNode, StoreNode, JoinNode, TakeNode, width_of}
-use Rattle.walk_spec.specs.Unrolled.{ByteRun}
+use Rattle.walk_spec.specs.Unrolled.{AddressRun, ByteRun, is_in}
+use Rattle.frame_spec.specs.FrameScripts.{of_head}
 use Rattle.smtlib_print.specs.Written.{one, two, three, four, five}
 
 -- the name of a term: t and its place
@@ -127,14 +128,30 @@ abbrev pub storing : Endian → (n m a v count : ℕ) → Sexp
 storing e n m a v zero = term m
 storing e n m a v (suc i) = four (Atom (codes "store")) (storing e n m a v i) (behind a i) (extract (8 * place e n i + 7) (8 * place e n i) v)
 
--- the term of a node: names of registers, flags and choices come from the layout and the numbers of points, all of one part; no byte is
--- read of a base, and none is taken
+-- the symbol of what a part has, by its name: the entry's is the name, and the head's has h_ before it
+abbrev pub part_prefix : (part : ℕ) → List ℕ
+part_prefix zero = []
+part_prefix (suc p) = of_head []
+
+abbrev pub part_name : (part : ℕ) → List ℕ → List ℕ
+part_name p w = part_prefix p ++ w
+
+-- the symbols by these names
+abbrev pub part_names : (part : ℕ) → List (List ℕ) → List (List ℕ)
+part_names zero names = names
+part_names (suc p) names = map of_head names
+
+-- the symbol of a part's memory
+abbrev pub memory_name : (part : ℕ) → List ℕ
+memory_name p = part_name p (codes "mem")
+
+-- the term of a node: names of registers, flags and choices come from the layout and the numbers of points; no byte is read of a base, and none is taken
 abbrev pub node_term : Layout → (numbers : List ℕ) → TermNode → Sexp
-node_term layout numbers (RegisterNode p r) = Atom (slice_index_or layout.registers (r - layout.first) [])
-node_term layout numbers (FlagNode p f) = Atom (slice_index_or layout.flags (length layout.flags - 1 - f) [])
+node_term layout numbers (RegisterNode p r) = Atom (part_name p (slice_index_or layout.registers (r - layout.first) []))
+node_term layout numbers (FlagNode p f) = Atom (part_name p (slice_index_or layout.flags (length layout.flags - 1 - f) []))
 node_term layout numbers (ChoiceNode i) = Atom (choice_name (slice_index numbers i))
 node_term layout numbers (BaseNode p j) = byte 0
-node_term layout numbers (MemoryNode p) = Atom (codes "mem")
+node_term layout numbers (MemoryNode p) = Atom (memory_name p)
 node_term layout numbers (ConstantNode w v) = constant w v
 node_term layout numbers (BinaryNode o w a b) = operation o w a b
 node_term layout numbers (NotNode w a) = two (Atom (codes "bvnot")) (term a)
@@ -156,23 +173,30 @@ abbrev pub node_definitions : Layout → List ℕ → ℕ → List TermNode → 
 node_definitions layout numbers at [] = []
 node_definitions layout numbers at (n ∷ ns) = definition at (sort_of (width_of n)) (node_term layout numbers n) ∷ node_definitions layout numbers (suc at) ns
 
--- a truth value of the entry memory's byte at an address
-abbrev pub has_byte : (a v : ℕ) → Sexp
-has_byte a v = three (Atom (codes "=")) (three (Atom (codes "select")) (Atom (codes "mem")) (address a)) (byte v)
+-- a truth value of the byte of a part's memory at an address
+abbrev pub has_byte : (part a v : ℕ) → Sexp
+has_byte p a v = three (Atom (codes "=")) (three (Atom (codes "select")) (Atom (memory_name p)) (address a)) (byte v)
 
 -- an assertion
 abbrev pub assertion : Sexp → Sexp
 assertion says = two (Atom (codes "assert")) says
 
+-- the byte of the file at an address is asserted of a part's memory: the entry's has each that is known, and the head's those that are kept
+abbrev pub is_of_part : (part : ℕ) → (kept : List AddressRun) → ℕ → Bool
+is_of_part zero kept a = true
+is_of_part (suc p) kept a = is_in kept a
+
 -- the assertions of so many bytes of a run from a distance on
-abbrev pub byte_assertions : ByteRun → (distance count : ℕ) → List Sexp
-byte_assertions run i zero = []
-byte_assertions run i (suc n) = assertion (has_byte (run.at + i) (slice_index run.bytes i)) ∷ byte_assertions run (suc i) n
+abbrev pub byte_assertions : (part : ℕ) → (kept : List AddressRun) → ByteRun → (distance count : ℕ) → List Sexp
+byte_assertions p kept run i zero = []
+byte_assertions p kept run i (suc n) =
+    if is_of_part p kept (run.at + i) then assertion (has_byte p (run.at + i) (slice_index run.bytes i)) ∷ byte_assertions p kept run (suc i) n
+    else byte_assertions p kept run (suc i) n
 
 -- the assertions of the bytes of runs
-abbrev pub run_assertions : List ByteRun → List Sexp
-run_assertions [] = []
-run_assertions (r ∷ rest) = byte_assertions r 0 r.count ++ run_assertions rest
+abbrev pub run_assertions : (part : ℕ) → (kept : List AddressRun) → List ByteRun → List Sexp
+run_assertions p kept [] = []
+run_assertions p kept (r ∷ rest) = byte_assertions p kept r 0 r.count ++ run_assertions p kept rest
 
 -- a declaration
 abbrev pub declaration : List ℕ → (sort : Sexp) → Sexp
@@ -188,31 +212,74 @@ drawn numbers [] = []
 drawn [] (d ∷ ds) = []
 drawn (n ∷ numbers) (d ∷ ds) = if d then choice_name n ∷ drawn numbers ds else drawn numbers ds
 
--- what is declared: registers, flags, the memory and the choices
-abbrev pub all_declarations : Layout → List (List ℕ) → List Sexp
-all_declarations layout choices =
-    declarations (word_sort (Atom (codes "32"))) layout.registers
-    ++ (declarations (word_sort (Atom (codes "1"))) layout.flags
-    ++ (declaration (codes "mem") array_sort ∷ declarations (word_sort (Atom (codes "2"))) choices))
+-- what is declared of a part: registers, flags and the memory
+abbrev pub part_declarations : Layout → (part : ℕ) → List Sexp
+part_declarations layout p =
+    declarations (word_sort (Atom (codes "32"))) (part_names p layout.registers)
+    ++ (declarations (word_sort (Atom (codes "1"))) (part_names p layout.flags) ++ (declaration (memory_name p) array_sort ∷ []))
+
+-- what is declared of the head, where there is one
+abbrev pub head_declarations : Layout → (heads : Bool) → List Sexp
+head_declarations layout false = []
+head_declarations layout true = part_declarations layout 1
+
+-- what is declared: what the entry has, what the head has, and the choices
+abbrev pub all_declarations : Layout → (heads : Bool) → (choices : List (List ℕ)) → List Sexp
+all_declarations layout heads choices =
+    part_declarations layout 0 ++ (head_declarations layout heads ++ declarations (word_sort (Atom (codes "2"))) choices)
+
+-- the assertions of the bytes of the file, of the head's memory too if it is asked
+abbrev pub head_assertions : (asked : Bool) → (kept : List AddressRun) → List ByteRun → List Sexp
+head_assertions false kept known = []
+head_assertions true kept known = run_assertions 1 kept known
+
+abbrev pub file_assertions : (asked : Bool) → (kept : List AddressRun) → List ByteRun → List Sexp
+file_assertions asked kept known = run_assertions 0 kept known ++ head_assertions asked kept known
+
+-- What a script is made of: the form of states; whether there is a head state beside the one at entry; the numbers of the points by their places, and whether
+-- they draw; the known bytes, the runs of kept addresses, and whether the head state is asked to have the kept bytes; the nodes, and the one that is meant.
+pub record Source : Type 0 where
+  pub layout : Layout
+  pub heads : Bool
+  pub numbers : List ℕ
+  pub draws : List Bool
+  pub known : List ByteRun
+  pub kept : List AddressRun
+  pub asks_head : Bool
+  pub nodes : List TermNode
+  pub root : ℕ
+
+-- the names of the choices that it declares
+abbrev pub choices_of : Source → List (List ℕ)
+choices_of s = drawn s.numbers s.draws
+
+-- the commands after the definitions of nodes
+abbrev pub last_commands : Source → List Sexp
+last_commands s =
+    definition (length s.nodes) (Atom (codes "Bool")) (is_one s.root)
+    ∷ (file_assertions s.asks_head s.kept s.known ++ (assertion (term (length s.nodes)) ∷ []))
 
 -- the commands between the logic and the check
-abbrev pub middle_commands : Layout → (numbers : List ℕ) → (choices : List (List ℕ)) → List ByteRun → List TermNode → (root : ℕ) → List Sexp
-middle_commands layout numbers choices runs nodes root =
-    all_declarations layout choices
-    ++ (node_definitions layout numbers 0 nodes
-    ++ (definition (length nodes) (Atom (codes "Bool")) (is_one root)
-    ∷ (run_assertions runs ++ (assertion (term (length nodes)) ∷ []))))
+abbrev pub middle_commands : Source → List Sexp
+middle_commands s = all_declarations s.layout s.heads (choices_of s) ++ (node_definitions s.layout s.numbers 0 s.nodes ++ last_commands s)
 
 -- the commands of a script
 abbrev pub all_commands : List Sexp → List Sexp
 all_commands middle = two (Atom (codes "set-logic")) (Atom (codes "QF_ABV")) ∷ (middle ++ (one (Atom (codes "check-sat")) ∷ []))
 
--- whether the bytes of a run from a distance on are in the memory, and what comes after them is true
-abbrev pub held_bytes : (mem : ℕ → ℕ) → ByteRun → (distance count : ℕ) → Bool → Bool
-held_bytes mem run i zero b = b
-held_bytes mem run i (suc n) b = (mem (run.at + i) == slice_index run.bytes i) && held_bytes mem run (suc i) n b
+-- whether those bytes of a run from a distance on that are of a part are in its memory, and what comes after them is true
+abbrev pub held_bytes : (part : ℕ) → (kept : List AddressRun) → (mem : ℕ → ℕ) → ByteRun → (distance count : ℕ) → Bool → Bool
+held_bytes p kept mem run i zero b = b
+held_bytes p kept mem run i (suc n) b =
+    if is_of_part p kept (run.at + i) then (mem (run.at + i) == slice_index run.bytes i) && held_bytes p kept mem run (suc i) n b
+    else held_bytes p kept mem run (suc i) n b
 
 -- whether the bytes of runs are
-abbrev pub held_runs : (mem : ℕ → ℕ) → List ByteRun → Bool → Bool
-held_runs mem [] b = b
-held_runs mem (r ∷ rest) b = held_bytes mem r 0 r.count (held_runs mem rest b)
+abbrev pub held_runs : (part : ℕ) → (kept : List AddressRun) → (mem : ℕ → ℕ) → List ByteRun → Bool → Bool
+held_runs p kept mem [] b = b
+held_runs p kept mem (r ∷ rest) b = held_bytes p kept mem r 0 r.count (held_runs p kept mem rest b)
+
+-- whether the head has those of the file, if it is asked
+abbrev pub held_head : (asked : Bool) → (kept : List AddressRun) → (mem : ℕ → ℕ) → List ByteRun → Bool → Bool
+held_head false kept mem known b = b
+held_head true kept mem known b = held_runs 1 kept mem known b

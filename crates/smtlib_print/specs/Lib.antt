@@ -6,3 +6,4 @@ pub mod Printable
 pub mod Programs
 pub mod Orders
 pub mod Numbered
+pub mod FrameTold

@@ -1,7 +1,13 @@
 -- The text of a script, and the law that it tells its question.
-use Rattle.std.specs.Prelude.{ℕ, ◌≡◌, ◌≢◌, ◌≤◌, ◌<◌, ◌+◌, ◌^◌, List, [], ◌∷◌, Some, length, map, slice_get, slice_index}
+use Rattle.std.specs.Prelude.{ℕ, ◌≡◌, ◌≢◌, ◌≤◌, ◌<◌, ◌+◌, ◌^◌, ◌&&◌, Bool, false, List, [], ◌∷◌, Some, length, map, slice_get, slice_index}
 use Rattle.bilv_spec.specs.Points.{Point}
 use Rattle.call_spec.specs.Calls.{Question}
+use Rattle.frame_spec.specs.FrameQuestions.{asks_head}
+use Rattle.known_bytes.specs.Runs.{run_of}
+use Rattle.question_form.specs.declared.questions.Question as forms
+use Rattle.question_form.specs.declared.unrolled.Unrolled.{Unrolled}
+use Rattle.question_form.specs.FrameQuestions.{frame_question_of}
+use Rattle.question_form.specs.Views.{code_of, kept_of}
 use Rattle.machine_spec.specs.StateText as texts
 use Rattle.term_spec.specs.Terms.{TermNode}
 use Rattle.walk_spec.specs.Unrolled.{ByteRun, UnrolledProgram, point_at}
@@ -9,7 +15,7 @@ use Rattle.walk_spec.specs.Unrolling.{IsLaidOut}
 use Rattle.term_spec.specs.WalkQuestions.{TellsQuestion}
 use Rattle.start_value.specs.declared.layout.Layout.{Layout}
 use Rattle.start_value.specs.Starts.{layout_of}
-use Rattle.smtlib_print.specs.Commands.{all_commands, drawn, middle_commands}
+use Rattle.smtlib_print.specs.Commands.{Source, all_commands, middle_commands}
 use Rattle.smtlib_print.specs.Told.{AreInOrder, TellsScript}
 use Rattle.smtlib_print.specs.Written.{commands_text}
 
@@ -37,10 +43,45 @@ pub record AreNumbers (u : UnrolledProgram) (points : List Point) (numbers : Lis
   pub distinct : (i j : ℕ) → i < j → j < length numbers → slice_index numbers i ≢ slice_index numbers j
   pub once : (i n : ℕ) → i < length numbers → slice_get points n ≡ Some (point_at u i).point → n ≡ slice_index numbers i
 
+-- what the script of a term over an unrolled program is made of
+abbrev pub program_source : texts.Layout → UnrolledProgram → (numbers : List ℕ) → (nodes : List TermNode) → (root : ℕ) → Source
+program_source layout u numbers nodes root = record {
+  layout = layout;
+  heads = false;
+  numbers = numbers;
+  draws = map (λ q. q.draws) u.points;
+  known = u.known;
+  kept = u.kept;
+  asks_head = false;
+  nodes = nodes;
+  root = root;
+}
+
+-- the text of a script
+abbrev pub source_text : Source → List ℕ
+source_text s = commands_text (all_commands (middle_commands s))
+
 -- the text of the script of a term over an unrolled program
 abbrev pub script_text : texts.Layout → UnrolledProgram → (numbers : List ℕ) → (nodes : List TermNode) → (root : ℕ) → List ℕ
-script_text layout u numbers nodes root =
-    commands_text (all_commands (middle_commands layout numbers (drawn numbers (map (λ q. q.draws) u.points)) u.known nodes root))
+script_text layout u numbers nodes root = source_text (program_source layout u numbers nodes root)
+
+-- whether the rows of the points draw
+abbrev pub draws_of : Unrolled → List Bool
+draws_of v = map (λ q. (code_of v q).draws) v.points.items
+
+-- what the script of a question is made of, in which there is a head state or none
+abbrev pub source_of : forms.Question → (heads : Bool) → (numbers : List ℕ) → Source
+source_of q heads numbers = let v = q.passive.now.unrolled.now in record {
+  layout = layout_of v.form;
+  heads = heads;
+  numbers = numbers;
+  draws = draws_of v;
+  known = map run_of v.known.items;
+  kept = map kept_of v.kept.now;
+  asks_head = heads && asks_head (frame_question_of q);
+  nodes = q.dag;
+  root = q.root.0;
+}
 
 -- The text of the script of a question's term tells the question.
 abbrev pub ScriptsTell : Type 0

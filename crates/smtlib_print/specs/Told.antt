@@ -24,10 +24,8 @@ abbrev pub IsSymbolOf : UnrolledProgram → Layout → List Point → List ℕ �
 IsSymbolOf u layout points w = Contains (value_names layout) w ⊎ ((w ≡ codes "mem") ⊎ IsDrawn u points w)
 
 -- A script begins with its logic and ends with the check, declares these symbols, is well formed for the values of each reading, and is satisfied by exactly
--- those
--- of the readings that make the question true, the bytes of the file included. Its bytes are plain, its commands whole lines, and what it defines has the names
--- of
--- terms.
+-- those of the readings that make the question true, the bytes of the file included. Its bytes are plain, its commands whole lines, and what it defines has the
+-- names of terms.
 pub record TellsScript (u : UnrolledProgram) (layout : Layout) (question : Question) (text : List ℕ) : Type 0 where
   pub points : List Point
   pub are_in_order : AreInOrder u points

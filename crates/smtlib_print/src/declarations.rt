@@ -1,12 +1,13 @@
-//! The declarations of registers and flags.
+//! The declarations of registers, flags, memories and choices.
 ghost use Rattle.std.specs.Prelude.{◌≡◌, ◌≤◌, ◌<◌, ◌+◌, ◌-◌, ◌++◌, ◌∷◌, [], codes, length, map, slice_index_or, string_bytes, OnOk};
 ghost use Rattle.bilv_spec.specs.SmtLib.{Atom};
 ghost use Rattle.start_value.specs.Starts.{layout_of};
-ghost use Rattle.question_form.specs.Views.{no_code, unrolled_of};
+ghost use Rattle.question_form.specs.Views.{no_code};
 ghost use Rattle.smtlib_print.specs.Commands as commands;
+ghost use Rattle.smtlib_print.specs.Scripted.{draws_of};
 ghost use Rattle.smtlib_print.specs.Written.{commands_text, written};
 
-use crate::words::{flag_name, push_register};
+use crate::words::{push_flag, push_memory, push_register};
 use question_form::Unrolled;
 use start_value::Layout;
 use std::alloc::AllocError;
@@ -21,58 +22,93 @@ fn first_register(form: Layout) -> u8
     }
 }
 
-/// Appends the declaration of a register.
-fn declare_register(out: &mut String, form: Layout, register: u8) -> Result<(), AllocError>
+/// Appends the declaration of a register of a part.
+fn declare_register(
+    out: &mut String,
+    form: Layout,
+    part: u32,
+    register: u8,
+) -> Result<(), AllocError>
     requires first { (layout_of form).first ≤ register }
     requires last { register < (layout_of form).first + length (layout_of form).registers }
     ensures { OnOk result (string_bytes out.new
         ≡ string_bytes out.old
-        ++ (written (commands.declaration (slice_index_or (layout_of form).registers (register - (layout_of form).first) [])
+        ++ (written (commands.declaration (commands.part_name part (slice_index_or (layout_of form).registers (register - (layout_of form).first) []))
         (commands.word_sort (Atom (codes "32"))))
         ++ codes "\n")) }
 {
     out.push_str("(declare-const ")?;
-    push_register(out, form, register)?;
+    push_register(out, form, part, register)?;
     out.push_str(" (_ BitVec 32))\n")
 }
 
-/// Appends the declaration of a flag.
-fn declare_flag(out: &mut String, form: Layout, flag: u8) -> Result<(), AllocError>
+/// Appends the declaration of a flag of a part.
+fn declare_flag(out: &mut String, form: Layout, part: u32, flag: u8) -> Result<(), AllocError>
     requires { flag < length (layout_of form).flags }
     ensures { OnOk result (string_bytes out.new
         ≡ string_bytes out.old
-        ++ (written (commands.declaration (slice_index_or (layout_of form).flags (length (layout_of form).flags - 1 - flag) [])
+        ++ (written (commands.declaration (commands.part_name part (slice_index_or (layout_of form).flags (length (layout_of form).flags - 1 - flag) []))
         (commands.word_sort (Atom (codes "1"))))
         ++ codes "\n")) }
 {
-    let name = flag_name(form, flag);
-    write!(out, "(declare-const {name} (_ BitVec 1))\n")
+    out.push_str("(declare-const ")?;
+    push_flag(out, form, part, flag)?;
+    out.push_str(" (_ BitVec 1))\n")
 }
 
-/// Appends the declarations of the registers.
-pub fn declare_registers(out: &mut String, form: Layout) -> Result<(), AllocError>
-    ensures { OnOk result (string_bytes out.new
-        ≡ string_bytes out.old ++ commands_text (commands.declarations (commands.word_sort (Atom (codes "32"))) (layout_of form).registers)) }
+/// Appends the declarations of the registers of a part.
+fn declare_registers(out: &mut String, form: Layout, part: u32) -> Result<(), AllocError>
+    ensures { OnOk result (string_bytes out.new ≡ string_bytes out.old
+        ++ commands_text (commands.declarations (commands.word_sort (Atom (codes "32"))) (commands.part_names part (layout_of form).registers))) }
 {
     let first = first_register(form);
     let count = form.register_count();
     prove!(count <= 31);
     for place in 0..count {
-        declare_register(out, form, first + place as u8)?;
+        declare_register(out, form, part, first + place as u8)?;
     }
     Ok(())
 }
 
-/// Appends the declarations of the flags, of which the one with the highest number comes first.
-pub fn declare_flags(out: &mut String, form: Layout) -> Result<(), AllocError>
+/// Appends the declarations of the flags of a part, of which the one with the highest number comes first.
+fn declare_flags(out: &mut String, form: Layout, part: u32) -> Result<(), AllocError>
     ensures { OnOk result (string_bytes out.new ≡ string_bytes out.old
-        ++ commands_text (commands.declarations (commands.word_sort (Atom (codes "1"))) (layout_of form).flags)) }
+        ++ commands_text (commands.declarations (commands.word_sort (Atom (codes "1"))) (commands.part_names part (layout_of form).flags))) }
 {
     let count = form.flag_count();
     for place in 0..count {
-        declare_flag(out, form, count - 1 - place)?;
+        declare_flag(out, form, part, count - 1 - place)?;
     }
     Ok(())
+}
+
+/// Appends the declaration of the memory of a part.
+fn declare_memory(out: &mut String, part: u32) -> Result<(), AllocError>
+    ensures { OnOk result (string_bytes out.new ≡ string_bytes out.old
+        ++ (written (commands.declaration (commands.memory_name part) commands.array_sort) ++ codes "\n")) }
+{
+    out.push_str("(declare-const ")?;
+    push_memory(out, part)?;
+    out.push_str(" (Array (_ BitVec 32) (_ BitVec 8)))\n")
+}
+
+/// Appends the declarations of what a part has: registers, flags and the memory.
+pub fn declare_part(out: &mut String, form: Layout, part: u32) -> Result<(), AllocError>
+    ensures { OnOk result (string_bytes out.new ≡ string_bytes out.old ++ commands_text (commands.part_declarations (layout_of form) part)) }
+{
+    declare_registers(out, form, part)?;
+    declare_flags(out, form, part)?;
+    declare_memory(out, part)
+}
+
+/// Appends the declarations of what the head has, where there is one.
+pub fn declare_head(out: &mut String, form: Layout, heads: bool) -> Result<(), AllocError>
+    ensures { OnOk result (string_bytes out.new ≡ string_bytes out.old ++ commands_text (commands.head_declarations (layout_of form) heads)) }
+{
+    if !heads {
+        return Ok(());
+    }
+    declare_part(out, form, 1)
 }
 
 /// Whether the row of a code reads the choice; there is nothing behind the last code.
@@ -107,8 +143,7 @@ pub fn declare_choices(
     requires { length numbers.now ≡ length unrolled.now.points.items }
     ensures { OnOk result (string_bytes out.new
         ≡ string_bytes out.old
-        ++ commands_text (commands.declarations (commands.word_sort (Atom (codes "2")))
-        (commands.drawn numbers.now (map (λ q. q.draws) (unrolled_of unrolled.now).points)))) }
+        ++ commands_text (commands.declarations (commands.word_sort (Atom (codes "2"))) (commands.drawn numbers.now (draws_of unrolled.now)))) }
 {
     for place in 0..unrolled.points.len() {
         let drawn = draws(unrolled, unrolled.points[place].code);

@@ -1,4 +1,5 @@
 //! What is claimed of the text of scripts.
+ghost use Rattle.smtlib_print.specs.FrameTold.{ScriptsAreOfFrames};
 ghost use Rattle.smtlib_print.specs.Programs.{ScriptsAreOfPrograms};
 ghost use Rattle.smtlib_print.specs.Scripted.{ScriptsTell};
 
@@ -10,4 +11,9 @@ pub fn scripts_tell()
 /// A script that tells a question over the unrolled program of a program is a script of the program's question.
 pub fn scripts_are_of_programs()
     ensures { ScriptsAreOfPrograms }
+{}
+
+/// A script that tells a question over the unrolled frame of a frame is a script of the frame's question.
+pub fn scripts_are_of_frames()
+    ensures { ScriptsAreOfFrames }
 {}

@@ -1,12 +1,13 @@
 //! The numbers of points: their places in the order of scripts.
-ghost use Rattle.std.specs.Prelude.{◌≡◌, ◌<◌, ◌^◌, ℕ, length, slice_index_or, IfOk};
+ghost use Rattle.std.specs.Prelude.{◌≡◌, ◌<◌, ◌^◌, ℕ, [], length, map, slice_index_or, IfOk};
+ghost use Rattle.question_form.specs.FrameViews.{frame_unrolled_of, no_root};
 ghost use Rattle.question_form.specs.Views.{no_code, unrolled_of};
-ghost use Rattle.smtlib_print.specs.Numbered.{AreApart, AreNumbersOf};
-ghost use Rattle.smtlib_print.specs.Orders.{AreInverse, ArePlaced, IsPlacedAt};
+ghost use Rattle.smtlib_print.specs.Numbered.{AreApart, AreNumbersOf, AreOnce, AreRanks};
+ghost use Rattle.smtlib_print.specs.Orders.{AreInverse, ArePlaced, IsPlacedAt, points_by};
 ghost use Rattle.smtlib_print.specs.declared.ordering.Placed.{Placed as PlacedPoint};
 
 use crate::ordering::{Placed, all_depths, sort};
-use question_form::Unrolled;
+use question_form::{Root, Unrolled};
 use std::alloc::{AllocError, Global};
 
 /// The most points whose numbers have 32 bits.
@@ -24,13 +25,26 @@ fn address(unrolled: &Unrolled, code: u32) -> u32
     }
 }
 
-/// The point at a place.
-fn placed_at(unrolled: &Unrolled, place: u32) -> Placed
+/// Where the segments of a root begin, if not at the entry; those of a root that is not listed begin there.
+fn beginning(roots: &[Root], root: u32) -> Option<program_points::Root>
+    ensures { result ≡ (slice_index_or roots.now root no_root).head }
+{
+    let number = root as usize;
+    if number < roots.len() {
+        roots[number].head
+    } else {
+        None
+    }
+}
+
+/// The point at a place, whose segment begins at one of some roots.
+fn placed_at(unrolled: &Unrolled, roots: &[Root], place: u32) -> Placed
     requires { place < length unrolled.now.points.items }
-    ensures { IsPlacedAt (unrolled_of unrolled.now) unrolled.now.frames.items place result }
+    ensures { IsPlacedAt (points_by unrolled.now roots.now) unrolled.now.frames.items place result }
 {
     let point = unrolled.points[place as usize];
     Placed {
+        root: beginning(roots, point.root),
         turns: point.turns,
         stack: point.stack,
         at: address(unrolled, point.code),
@@ -39,13 +53,18 @@ fn placed_at(unrolled: &Unrolled, place: u32) -> Placed
 }
 
 /// All points, in the order of their places. The error is want of memory.
-fn all_placed(alloc: Global, unrolled: &Unrolled, count: u32) -> Result<Vec<Placed>, AllocError>
+fn all_placed(
+    alloc: Global,
+    unrolled: &Unrolled,
+    roots: &[Root],
+    count: u32,
+) -> Result<Vec<Placed>, AllocError>
     requires { count ≡ length unrolled.now.points.items }
-    ensures { IfOk result (λ v. ArePlaced (unrolled_of unrolled.now) unrolled.now.frames.items v.items) }
+    ensures { IfOk result (λ v. ArePlaced (points_by unrolled.now roots.now) unrolled.now.frames.items v.items) }
 {
     let mut found: Vec<Placed> = Vec::new(alloc);
     for place in 0..count {
-        found.push(placed_at(unrolled, place))?;
+        found.push(placed_at(unrolled, roots, place))?;
     }
     Ok(found)
 }
@@ -64,18 +83,37 @@ fn numbers_in(alloc: Global, order: &[Placed]) -> Result<Vec<u32>, AllocError>
     Ok(numbers)
 }
 
-/// The number of each point, by its place, in the order of scripts. The error is want of memory, or of numbers for points.
-pub fn numbers(alloc: Global, unrolled: &Unrolled) -> Result<Vec<u32>, AllocError>
+/// The number of each point, by its place, in the order of scripts, where segments begin at these roots. The error is want of memory, or of numbers for points.
+fn numbers_by(alloc: Global, unrolled: &Unrolled, roots: &[Root]) -> Result<Vec<u32>, AllocError>
     ensures count { IfOk result (λ v. length v.items ≡ length unrolled.now.points.items) }
-    ensures numbers { AreApart (unrolled_of unrolled.now) → IfOk result (λ v. AreNumbersOf (unrolled_of unrolled.now) v.items) }
+    ensures ranks { AreOnce (points_by unrolled.now roots.now) → IfOk result (λ v. AreRanks (points_by unrolled.now roots.now) v.items) }
 {
     let count = unrolled.points.len();
     if count > MOST {
         return Err(AllocError);
     }
-    let mut order = all_placed(alloc, unrolled, count as u32)?;
+    let mut order = all_placed(alloc, unrolled, roots, count as u32)?;
     let depths = all_depths(alloc, &unrolled.frames)?;
     sort(&mut order, &unrolled.frames, &depths)?;
     let numbers = numbers_in(alloc, &order)?;
+    Ok(numbers)
+}
+
+/// The number of each point of a program, by its place, in the order of scripts. The error is want of memory, or of numbers for points.
+pub fn numbers(alloc: Global, unrolled: &Unrolled) -> Result<Vec<u32>, AllocError>
+    ensures count { IfOk result (λ v. length v.items ≡ length unrolled.now.points.items) }
+    ensures numbers { AreApart (unrolled_of unrolled.now) → IfOk result (λ v. AreNumbersOf (unrolled_of unrolled.now) v.items) }
+{
+    let numbers = numbers_by(alloc, unrolled, &[])?;
+    Ok(numbers)
+}
+
+/// The number of each point of a frame, by its place, in the order of scripts. The error is want of memory, or of numbers for points.
+pub fn frame_numbers(alloc: Global, unrolled: &Unrolled) -> Result<Vec<u32>, AllocError>
+    ensures count { IfOk result (λ v. length v.items ≡ length unrolled.now.points.items) }
+    ensures ranks { AreOnce (map (λ q. q.point) (frame_unrolled_of unrolled.now).points) →
+        IfOk result (λ v. AreRanks (map (λ q. q.point) (frame_unrolled_of unrolled.now).points) v.items) }
+{
+    let numbers = numbers_by(alloc, unrolled, &unrolled.roots)?;
     Ok(numbers)
 }

@@ -1,9 +1,12 @@
-//! The order of points in scripts: by backward transfers, then by how many addresses their stacks have, then by these from the bottom, then by address.
+//! The order of points in scripts: by where their segments begin, the entry first, then by backward transfers, then by how many addresses their stacks have,
+//! then by these from the bottom, then by address. Heads are in the order of their stacks and addresses.
 ghost use Rattle.std.specs.Prelude.{◌≡◌, ◌<◌, ◌≤◌, ◌∷◌, [], ℕ, length, slice_index, IfOk, MatchOption, OnOk};
 ghost use Rattle.std.specs.List.Sorted.{IsPermutation};
-ghost use Rattle.program_points.specs.Tables.{stack_at};
-ghost use Rattle.smtlib_print.specs.Orders.{AreDepths, AreSorted, counts_order, placed_order, placed_point, stack_order};
+ghost use Rattle.program_points.specs.Listed.{anchor_of};
+ghost use Rattle.program_points.specs.Tables.{stack_at, stacks_of};
+ghost use Rattle.smtlib_print.specs.Orders.{AreDepths, AreSorted, anchor_order, placed_order, spot_order, stack_order};
 
+use program_points::Root;
 use question_form::Frame;
 use std::alloc::{AllocError, Global};
 use std::cmp::Ordering;
@@ -11,6 +14,8 @@ use std::cmp::Ordering;
 /// A point and its place in the unrolled program.
 #[derive(Clone, Copy)]
 pub struct Placed {
+    /// Where its segment begins, if not at the entry.
+    pub root: Option<Root>,
     pub turns: u32,
     /// The number of its stack.
     pub stack: usize,
@@ -96,13 +101,43 @@ fn compare_stacks(frames: &[Frame], left: usize, right: usize) -> Ordering
     order
 }
 
-/// The order of two points by their backward transfers, and then by how many addresses their stacks have.
-fn compare_counts(frames: &[Frame], depths: &[usize], x: &Placed, y: &Placed) -> Ordering
+/// The order of two stacks with an address each: by how many addresses the stacks have, by these from the bottom, and by the address.
+fn compare_spots(frames: &[Frame], depths: &[usize], x: Root, y: Root) -> Ordering
     requires { AreDepths frames.now depths.now }
-    ensures { result ≡ counts_order (placed_point frames.now x.now) (placed_point frames.now y.now) }
+    ensures { result ≡ spot_order (stack_at frames.now x.stack) x.at (stack_at frames.now y.stack) y.at }
 {
-    let compared = depth(depths, x.stack).cmp(&depth(depths, y.stack));
-    x.turns.cmp(&y.turns).then(compared)
+    match depth(depths, x.stack).cmp(&depth(depths, y.stack)) {
+        Ordering::Equal => compare_stacks(frames, x.stack, y.stack).then(x.at.cmp(&y.at)),
+        order => order,
+    }
+}
+
+/// The order of two beginnings of segments: the entry comes first.
+fn compare_anchors(frames: &[Frame], depths: &[usize], x: Option<Root>, y: Option<Root>) -> Ordering
+    requires { AreDepths frames.now depths.now }
+    ensures { result ≡ anchor_order (anchor_of (stacks_of frames.now) x) (anchor_of (stacks_of frames.now) y) }
+{
+    match x {
+        None => match y {
+            None => Ordering::Equal,
+            Some(_) => Ordering::Less,
+        },
+        Some(left) => match y {
+            None => Ordering::Greater,
+            Some(right) => compare_spots(frames, depths, left, right),
+        },
+    }
+}
+
+/// Where a point stands, without its segment and its backward transfers.
+fn spot(x: &Placed) -> Root
+    ensures stack { result.stack ≡ x.now.stack }
+    ensures at { result.at ≡ x.now.at }
+{
+    Root {
+        stack: x.stack,
+        at: x.at,
+    }
 }
 
 /// The order of two points.
@@ -110,8 +145,9 @@ fn compare(frames: &[Frame], depths: &[usize], x: &Placed, y: &Placed) -> Orderi
     requires { AreDepths frames.now depths.now }
     ensures { result ≡ placed_order frames.now x.now y.now }
 {
-    match compare_counts(frames, depths, x, y) {
-        Ordering::Equal => compare_stacks(frames, x.stack, y.stack).then(x.at.cmp(&y.at)),
+    let anchors = compare_anchors(frames, depths, x.root, y.root);
+    match anchors.then(x.turns.cmp(&y.turns)) {
+        Ordering::Equal => compare_spots(frames, depths, spot(x), spot(y)),
         order => order,
     }
 }

@@ -11,7 +11,9 @@ ghost use Rattle.smtlib_print.specs.Commands as commands;
 ghost use Rattle.smtlib_print.specs.Printable.{IsCompound, IsPrintable};
 ghost use Rattle.smtlib_print.specs.Written.{three, two, written};
 
-use crate::words::{flag_name, ones, push_address, push_byte, push_constant, push_register};
+use crate::words::{
+    ones, push_address, push_byte, push_constant, push_flag, push_memory, push_register,
+};
 use start_value::Layout;
 use std::alloc::AllocError;
 use term_dag::{Node, Op, Term};
@@ -318,11 +320,11 @@ pub fn push_node(
     ensures { OnOk result (string_bytes out.new ≡ string_bytes out.old ++ written (commands.node_term (layout_of form) numbers.now (node_of node))) }
 {
     match node {
-        Node::Register { number, .. } => push_register(out, form, number),
-        Node::Flag { number, .. } => out.push_str(flag_name(form, number)),
+        Node::Register { part, number } => push_register(out, form, part, number),
+        Node::Flag { part, number } => push_flag(out, form, part, number),
         Node::Choice(place) => push_symbol(out, numbers, place),
         Node::Base { .. } => push_byte(out, 0),
-        Node::Memory(_) => out.push_str("mem"),
+        Node::Memory(part) => push_memory(out, part),
         Node::Constant { width, value } => push_constant(out, width, value),
         Node::Binary {
             op,

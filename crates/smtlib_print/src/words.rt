@@ -6,7 +6,7 @@ ghost use Rattle.word_spec.specs.Memory.{Little};
 ghost use Rattle.machine_spec.specs.StateText.{arm_layout};
 ghost use Rattle.start_value.specs.Starts.{layout_of};
 ghost use Rattle.smtlib_print.specs.Commands as commands;
-ghost use Rattle.smtlib_print.specs.Commands.{binary_digits, constant_text};
+ghost use Rattle.smtlib_print.specs.Commands.{binary_digits, constant_text, memory_name, part_name, part_prefix};
 ghost use Rattle.smtlib_print.specs.Written.{written};
 
 use start_value::Layout;
@@ -97,8 +97,18 @@ pub fn push_byte(out: &mut String, value: u8) -> Result<(), AllocError>
     push_hex(out, 2, value as u64)
 }
 
+/// Appends what symbols of a part begin with: nothing where it is the entry's, which is 0, and `h_` where it is the head's.
+fn push_part(out: &mut String, part: u32) -> Result<(), AllocError>
+    ensures { OnOk result (string_bytes out.new ≡ string_bytes out.old ++ part_prefix part) }
+{
+    if part == 0 {
+        return Ok(());
+    }
+    out.push_str("h_")
+}
+
 /// Appends the name of a register.
-pub fn push_register(out: &mut String, form: Layout, register: u8) -> Result<(), AllocError>
+fn push_register_name(out: &mut String, form: Layout, register: u8) -> Result<(), AllocError>
     requires first { (layout_of form).first ≤ register }
     requires last { register < (layout_of form).first + length (layout_of form).registers }
     ensures { OnOk result (string_bytes out.new ≡ string_bytes out.old ++ slice_index_or (layout_of form).registers (register - (layout_of form).first) []) }
@@ -123,7 +133,7 @@ fn arm_flag(flag: u8) -> &'static str
 }
 
 /// The name of a flag.
-pub fn flag_name(form: Layout, flag: u8) -> &'static str
+fn flag_name(form: Layout, flag: u8) -> &'static str
     requires { flag < length (layout_of form).flags }
     ensures { result.now ≡ slice_index_or (layout_of form).flags (length (layout_of form).flags - 1 - flag) [] }
 {
@@ -131,4 +141,38 @@ pub fn flag_name(form: Layout, flag: u8) -> &'static str
         Layout::Rv32 { .. } => unreachable!(),
         Layout::Arm { .. } => arm_flag(flag),
     }
+}
+
+/// Appends the symbol of a register of a part.
+pub fn push_register(
+    out: &mut String,
+    form: Layout,
+    part: u32,
+    register: u8,
+) -> Result<(), AllocError>
+    requires first { (layout_of form).first ≤ register }
+    requires last { register < (layout_of form).first + length (layout_of form).registers }
+    ensures { OnOk result (string_bytes out.new
+        ≡ string_bytes out.old ++ part_name part (slice_index_or (layout_of form).registers (register - (layout_of form).first) [])) }
+{
+    push_part(out, part)?;
+    push_register_name(out, form, register)
+}
+
+/// Appends the symbol of a flag of a part.
+pub fn push_flag(out: &mut String, form: Layout, part: u32, flag: u8) -> Result<(), AllocError>
+    requires { flag < length (layout_of form).flags }
+    ensures { OnOk result (string_bytes out.new
+        ≡ string_bytes out.old ++ part_name part (slice_index_or (layout_of form).flags (length (layout_of form).flags - 1 - flag) [])) }
+{
+    push_part(out, part)?;
+    out.push_str(flag_name(form, flag))
+}
+
+/// Appends the symbol of a part's memory.
+pub fn push_memory(out: &mut String, part: u32) -> Result<(), AllocError>
+    ensures { OnOk result (string_bytes out.new ≡ string_bytes out.old ++ memory_name part) }
+{
+    push_part(out, part)?;
+    out.push_str("mem")
 }

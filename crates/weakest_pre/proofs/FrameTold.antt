@@ -26,8 +26,8 @@ use Rattle.frame_terms.proofs.FrameReadings.{part_range}
 use Rattle.frame_terms.proofs.HeadlessNodes.{tells_as, point_terms_as, headless_terms}
 use Rattle.call_form.specs.declared.kind.Kind.{Kind}
 use Rattle.call_form.specs.declared.kind.Kind.TheVariants as kinds
-use Rattle.question_form.specs.declared.questions.Asked.{Asked}
-use Rattle.question_form.specs.declared.questions.Asked.TheVariants.{Entry, Fail, Step, Turn}
+use Rattle.call_form.specs.declared.kind.Asked.{Asked}
+use Rattle.call_form.specs.declared.kind.Asked.TheVariants.{Entry, Fail, Step, Turn}
 use Rattle.question_form.specs.declared.questions.Passive.{Passive}
 use Rattle.question_form.specs.Asked.{asked_of, frame_question, program_question}
 use Rattle.question_form.specs.FrameQuestions.{frame_passive_of}

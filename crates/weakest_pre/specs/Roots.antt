@@ -3,8 +3,8 @@ use Rattle.std.specs.Prelude.{ℕ, ◌≡◌, ◌+◌, bit_and, List, [], length
 use Rattle.term_spec.specs.Terms.{TermReading, InRange, TermNode, AreTyped, HasWidth, term_word, term_gates, term_loads, term_stores, term_joins}
 use Rattle.term_spec.specs.WalkQuestions.{QuestionTerm}
 use Rattle.term_dag.specs.Made.{Grew, InputsFrom}
-use Rattle.question_form.specs.declared.questions.Asked.{Asked}
-use Rattle.question_form.specs.declared.questions.Asked.TheVariants.{Entry, Fail, Step, Turn}
+use Rattle.call_form.specs.declared.kind.Asked.{Asked}
+use Rattle.call_form.specs.declared.kind.Asked.TheVariants.{Entry, Fail, Step, Turn}
 use Rattle.question_form.specs.declared.questions.Passive.{Passive}
 use Rattle.question_form.specs.Views.{unrolled_of}
 use Rattle.weakest_pre.specs.Copies.{IsMoved}

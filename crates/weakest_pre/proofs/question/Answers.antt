@@ -2,7 +2,7 @@ use Rattle.std.proofs.Common.{sym, subst, ◌∙◌}
 use Rattle.term_spec.specs.Passive.{IsPassive}
 use Rattle.term_spec.specs.WalkQuestions.{TellsQuestion}
 use Rattle.walk_spec.specs.Unrolling.{IsWalkable}
-use Rattle.question_form.specs.declared.questions.Asked.{Asked}
+use Rattle.call_form.specs.declared.kind.Asked.{Asked}
 use Rattle.question_form.specs.declared.questions.Passive.{Passive}
 use Rattle.question_form.specs.Asked.{program_question}
 use Rattle.question_form.specs.Questions.{passive_of, program_of_question, term_of}

@@ -1,6 +1,6 @@
 use Rattle.std.proofs.Common.{refl, sym, subst}
 use Rattle.term_dag.specs.declared.nodes.Term.{Term}
-use Rattle.question_form.specs.declared.questions.Asked.{Asked}
+use Rattle.call_form.specs.declared.kind.Asked.{Asked}
 use Rattle.weakest_pre.specs.Roots.{IsTied, IsTiedBy}
 use Rattle.weakest_pre.proofs.root.Goals.{in-Fail, in-Step, in-Turn}
 use Rattle.weakest_pre.proofs.root.Goals as goal

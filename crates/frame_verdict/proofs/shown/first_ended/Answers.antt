@@ -5,7 +5,7 @@ use Rattle.machine_spec.specs.StateText.{Layout}
 use Rattle.frame_spec.specs.FrameQuestions.{Question}
 use Rattle.question_form.specs.Asked.{frame_question}
 use Rattle.question_form.specs.declared.unrolled.Unrolled.{Unrolled}
-use Rattle.frame_rounds.specs.declared.answers.Segments.{Segments}
+use Rattle.frame_start.specs.declared.meaning.Segments.{Segments}
 use Rattle.frame_verdict.specs.FrameFunctions.{program_of_framed}
 use Rattle.frame_verdict.specs.ShownEnds.{EndsAsAsked, IsEnded}
 use Rattle.frame_verdict.specs.declared.shown.Ended.{Ended}

@@ -1,13 +1,23 @@
-use Rattle.std.proofs.Common.{sym, ap, ◌∙◌}
-use Rattle.std.specs.Ordering.{ordering_then}
+use Rattle.std.proofs.Common.{ap, ◌∙◌}
 use Rattle.program_points.specs.Tables.{stack_at}
-use Rattle.smtlib_print.specs.Orders.{placed_point, stack_order}
-use Rattle.smtlib_print.proofs.Compared.{stacks_decide}
+use Rattle.smtlib_print.specs.Orders.{placed_point}
+use Rattle.smtlib_print.proofs.Compared.{points_decide, points_settle, spots_are}
 use Rattle.smtlib_print.proofs.ordering.compare.Goals as goal
 
 pub returns-in-Equal : goal.returns-in-Equal
 returns-in-Equal c =
     let frames = c.args.frames.now in
-    let compared = stack_order (stack_at frames c.args.x.now.stack) (stack_at frames c.args.y.now.stack) in
-    c.then.ensures ∙ ap (λ o. ordering_then o c.cmp.result) c.compare_stacks.ensures ∙ ap (λ o. ordering_then compared o) c.cmp.ensures
-    ∙ stacks_decide (placed_point frames c.args.x.now) (placed_point frames c.args.y.now) (sym c.compare_counts.ensures ∙ c.in-Equal.is)
+    let x = c.args.x.now in
+    let y = c.args.y.now in
+    let p = c.spot.result in
+    let q = c.spot-in-Equal.result in
+    points_decide (placed_point frames x) (placed_point frames y) c.then.result c.compare_anchors-anchors.result c.cmp.result c.compare_spots.result
+    c.then.ensures c.compare_anchors-anchors.ensures c.cmp.ensures c.in-Equal.is
+    (c.compare_spots.ensures
+    ∙ spots_are (stack_at frames p.stack) (stack_at frames x.stack) p.at x.at (stack_at frames q.stack) (stack_at frames y.stack) q.at y.at
+    (ap (stack_at frames) c.spot.ensures.stack) c.spot.ensures.at (ap (stack_at frames) c.spot-in-Equal.ensures.stack) c.spot-in-Equal.ensures.at)
+
+pub returns-in_default : goal.returns-in_default
+returns-in_default c =
+    points_settle (placed_point c.args.frames.now c.args.x.now) (placed_point c.args.frames.now c.args.y.now) c.then.result
+    c.compare_anchors-anchors.result c.cmp.result c.then.ensures c.compare_anchors-anchors.ensures c.cmp.ensures c.in_default.not-Equal

@@ -1,8 +1,11 @@
 use Rattle.std.proofs.Common.{string_bytes}
-use Rattle.smtlib_print.proofs.Printed.{on_text, rv_named}
+use Rattle.smtlib_print.specs.Commands.{part_prefix}
+use Rattle.smtlib_print.proofs.Printed.{on_ok, part_added}
 use Rattle.smtlib_print.proofs.words.push_register.Goals as goal
 
-pub returns-in-Rv32 : goal.returns-in-Rv32
-returns-in-Rv32 c =
-    on_text c.write.result (string_bytes c.write.new.self) (string_bytes c.args.out.now) _ _
-    (rv_named c.args.form _ c.args.register c.in-Rv32.is c.requires.first c.requires.last) c.write.ensures.bytes
+pub returns : goal.returns
+returns c =
+    on_ok c.push_register_name.result _ _
+    (part_added (string_bytes c.args.out.now) (string_bytes c.push_part.new.out) (string_bytes c.push_register_name.new.out) (part_prefix c.args.part) _
+    c.in_ok-push_part.ensures)
+    c.push_register_name.ensures
