@@ -3,7 +3,7 @@ use crate::draft::parted;
 use crate::fault::LineFault;
 use bilv_top::Evidence;
 use pair_form::PairKind;
-use question_form::Kind;
+use question_form::{Asked, Kind};
 
 /// A kind of evidence, with the question or the count that it is about.
 #[derive(Clone, Copy, PartialEq)]
@@ -13,6 +13,9 @@ pub enum EvidenceDue {
     EntryRefuted,
     RunOf,
     SpentOn(Kind),
+    Inductive,
+    FromHead,
+    SpentOnFrame(Asked),
     Two,
     Both,
     SpentOnPair(PairKind),
@@ -30,6 +33,12 @@ impl EvidenceDue {
             "spent entry" => Ok(EvidenceDue::SpentOn(Kind::Entry)),
             "spent fail" => Ok(EvidenceDue::SpentOn(Kind::Fail)),
             "spent turn" => Ok(EvidenceDue::SpentOn(Kind::Turn)),
+            "inductive" => Ok(EvidenceDue::Inductive),
+            "head" => Ok(EvidenceDue::FromHead),
+            "spent frame entry" => Ok(EvidenceDue::SpentOnFrame(Asked::Entry)),
+            "spent frame fail" => Ok(EvidenceDue::SpentOnFrame(Asked::Fail)),
+            "spent frame step" => Ok(EvidenceDue::SpentOnFrame(Asked::Step)),
+            "spent frame turn" => Ok(EvidenceDue::SpentOnFrame(Asked::Turn)),
             "two" => Ok(EvidenceDue::Two),
             "both" => Ok(EvidenceDue::Both),
             "spent pair" => Ok(EvidenceDue::SpentOnPair(PairKind::Pair)),
@@ -46,6 +55,9 @@ impl EvidenceDue {
             Evidence::EntryRefuted(_) => EvidenceDue::EntryRefuted,
             Evidence::RunOf(_) => EvidenceDue::RunOf,
             Evidence::SpentOn { question, .. } => EvidenceDue::SpentOn(*question),
+            Evidence::Inductive { .. } => EvidenceDue::Inductive,
+            Evidence::FromHead { .. } => EvidenceDue::FromHead,
+            Evidence::SpentOnFrame { question, .. } => EvidenceDue::SpentOnFrame(*question),
             Evidence::Two { .. } => EvidenceDue::Two,
             Evidence::Both { .. } => EvidenceDue::Both,
             Evidence::SpentOnPair { question, .. } => EvidenceDue::SpentOnPair(*question),

@@ -3,7 +3,7 @@ use crate::case::{Replay, Writer};
 use crate::draft::list_of;
 use std::alloc::{AllocError, Global};
 
-/// The name under which a text is replayed.
+/// The name under which a text is replayed or checked.
 pub const REPORT: &str = "report";
 
 /// The words of the call that replays a text, and the report in it: what `model` writes is a line before it, and what `equal` writes of one function is a word

@@ -1,14 +1,13 @@
 -- Answers to tasks, on the machine of a file, and by counts that did not fall before.
 use Rattle.std.proofs.Common.{◌≡◌, ℕ, ◌≤◌, List, sym, subst}
-use Rattle.call_spec.specs.Calls.{AfterRead, Answer, Budget, Surroundings}
+use Rattle.call_spec.specs.Calls.{AfterRead, Answer, Budget, Surroundings, program_question}
 use Rattle.bilv_spec.specs.Files.{program_of}
 use Rattle.machine_spec.specs.Machine.{Machine}
 use Rattle.bilv_spec.specs.Notes.{Notes}
-use Rattle.bilv_spec.specs.Replays.{replay_answer}
 use Rattle.bilv_spec.specs.Run.{Program}
 use Rattle.machine_spec.specs.StateText.{Layout}
-use Rattle.model_spec.specs.Models.{AfterBudgets, IsModelAnswer, points, size, within}
-use Rattle.command_line.specs.Commands.{budget_of, kind_of}
+use Rattle.model_spec.specs.Models.{AfterBudgets, IsAskedModelAnswer, points, size, within}
+use Rattle.command_line.specs.Commands.{budget_of, frame_question}
 use Rattle.bilv_top.specs.Tasks.{IsDone}
 use Rattle.bilv_top.specs.declared.tasks.Task.{Task}
 use Rattle.bilv_top.specs.declared.tasks.Task.TheVariants as task
@@ -39,12 +38,9 @@ pub done_since : (s t : Surroundings) (asked : Task) (layout : Layout) (p : Prog
     ((n : List ℕ) → t.shelf_before n ≤ s.shelf_before n) → ((n : List ℕ) → s.shelf_after n ≡ t.shelf_after n) → IsDone s asked layout p a →
     IsDone t asked layout p a
 done_since s t (task.Report budget) layout p a held before after done = done
-done_since s t task.Graph layout p a held before after done = done
 done_since s t (task.Script question budget) layout p a held before after done = done
 done_since s t (task.Certificate question budget) layout p a held before after done = done
-done_since s t (task.Replay name) layout p a held before after done =
-    read_since s t name.now (λ text x. x ≡ replay_answer p layout text) a (held name.now) (before name.now) (after name.now) done
 done_since s t (task.Model question budget name) layout p a held before after done =
-    budgets_next p (budget_of budget) (AfterRead s name.now (IsModelAnswer p layout (budget_of budget) (kind_of question)))
-    (AfterRead t name.now (IsModelAnswer p layout (budget_of budget) (kind_of question))) a
-    (read_since s t name.now (IsModelAnswer p layout (budget_of budget) (kind_of question)) a (held name.now) (before name.now) (after name.now)) done
+    let Judged = IsAskedModelAnswer p layout (budget_of budget) (program_question (frame_question question)) in
+    budgets_next p (budget_of budget) (AfterRead s name.now Judged) (AfterRead t name.now Judged) a
+    (read_since s t name.now Judged a (held name.now) (before name.now) (after name.now)) done

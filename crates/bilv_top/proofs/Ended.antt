@@ -2,16 +2,14 @@
 use Rattle.std.proofs.Common.{◌≡◌, ◌≢◌, ℕ, List, [], Option, Some, None, refl, ap, sym, subst}
 use Rattle.std.proofs.lemmas.List.{append-nil}
 use Rattle.bilv_spec.specs.Run.{Program}
-use Rattle.call_spec.specs.Calls.{Options, Answer, Budget, NoEvidence, Surroundings, AfterRead}
+use Rattle.call_spec.specs.Calls.{Options, Answer, Budget, NoEvidence, Surroundings, AfterRead, program_question}
 use Rattle.bilv_spec.specs.Files.{layout_of}
 use Rattle.call_spec.specs.Outside.{Appends, Rose}
 use Rattle.notes_spec.specs.Verified.{AfterImage, elf_refused, elf_accepted, AfterNotes, notes_refused, program_found}
-use Rattle.bilv_spec.specs.Certified.{IsCertified}
 use Rattle.clause_spec.specs.Checks.{IsChecked}
 use Rattle.frame_spec.specs.FrameVerdict.{Whole}
-use Rattle.bilv_spec.specs.Scripts.{IsScriptAnswer}
 use Rattle.command_spec.specs.Commands.{Command, Verify, Lift, Graph, Script, Replay, Certify, Check, SelfRun, Upgrade, Model, Equal, Differ}
-use Rattle.answer_spec.specs.FrameAnswers.{AfterFrames, frames_refused, frames_found, IsVerifiedWhole, IsReplayedWhole}
+use Rattle.answer_spec.specs.FrameAnswers.{AfterFrames, frames_refused, frames_found, IsVerifiedWhole, IsReplayedWhole, IsCertifiedWhole, IsScriptWhole}
 use Rattle.answer_spec.specs.Outcomes.{AfterBoth, AfterWhole, IsLifted, IsGraphed, upgrade_answer, IsDueAnswer, IsOutcome, whole, cut, no_memory}
 use Rattle.answer_laws.specs.Completeness.{AreTold, IsSpentEvidence}
 use Rattle.answer_laws.specs.Told.{AreToldTo, IsAnswered}
@@ -23,7 +21,7 @@ use Rattle.io_edges.specs.Met.{met}
 use Rattle.io_edges.specs.WriteFaults.{Stopped}
 use Rattle.io_edges.specs.declared.WriteFault.{WriteFault}
 use Rattle.io_edges.proofs.Meeting.{read_met, front_of_stopped}
-use Rattle.model_spec.specs.Models.{AfterBudgets, IsModelAnswer}
+use Rattle.model_spec.specs.Models.{AfterBudgets, IsAskedModelAnswer}
 use Rattle.pair_spec.specs.Differs.{differ_answer}
 use Rattle.pair_spec.specs.Equals.{side_of, IsPairReported}
 use Rattle.bilv_top.specs.Ends.{AreAnswered}
@@ -76,9 +74,9 @@ module _ (s : Surroundings) (before after : Option (List ℕ)) (sink_before sink
   read_same : (name : List ℕ) (Next : List ℕ → Answer → Type 0) (a : Answer) → AfterRead s name Next a → AfterRead there name Next a
   read_same name Next a = read_met s before after sink_before sink_after name Next Next a (λ bytes next. next)
 
-  both_same : (o : Options) (elf notes : List ℕ) (Next : List ℕ → Program → Answer → Type 0) (a : Answer) → AfterBoth s o elf notes Next a →
-      AfterBoth there o elf notes Next a
-  both_same o elf notes Next a = both_met o elf notes Next Next a (λ file p next. next)
+  whole_same : (o : Options) (elf notes : List ℕ) (Next : List ℕ → Whole → Answer → Type 0) (a : Answer) → AfterWhole s o elf notes Next a →
+      AfterWhole there o elf notes Next a
+  whole_same o elf notes Next a = whole_met o elf notes Next Next a (λ file w next. next)
 
   -- what is written changes no answer that is due
   due_met : (c : Option Command) (a : Answer) → IsDueAnswer s c a → IsDueAnswer there c a
@@ -86,27 +84,27 @@ module _ (s : Surroundings) (before after : Option (List ℕ)) (sink_before sink
   due_met (Some (Verify o elf notes b)) a due =
       whole_met o elf notes (λ file. IsVerifiedWhole (layout_of o file) b) (λ file. IsVerifiedWhole (layout_of o file) b) a (λ file w is. is) due
   due_met (Some (Lift o elf)) a due = read_same elf (λ file. AfterImage file (IsLifted o file)) a due
-  due_met (Some (Graph o elf notes)) a due = both_same o elf notes (λ file p. IsGraphed p) a due
-  due_met (Some (Script o elf notes q b)) a due = both_same o elf notes (λ file p. IsScriptAnswer p (layout_of o file) b q) a due
+  due_met (Some (Graph o elf notes)) a due = whole_same o elf notes (λ file w. IsGraphed w.program) a due
+  due_met (Some (Script o elf notes q b)) a due = whole_same o elf notes (λ file. IsScriptWhole (layout_of o file) b q) a due
   due_met (Some (Replay o elf notes report)) a due =
       whole_met o elf notes (λ file w. AfterRead s report (λ text. IsReplayedWhole (layout_of o file) text w))
       (λ file w. AfterRead there report (λ text. IsReplayedWhole (layout_of o file) text w)) a
       (λ file w. read_same report (λ text. IsReplayedWhole (layout_of o file) text w) a) due
-  due_met (Some (Certify o elf notes q b)) a due = both_same o elf notes (λ file p x. IsCertified p b q x.status x.text x.evidence) a due
+  due_met (Some (Certify o elf notes q b)) a due = whole_same o elf notes (λ file. IsCertifiedWhole b q) a due
   due_met (Some (Check name)) a due = read_same name (λ text x. IsChecked text x.status x.text × (x.evidence ≡ NoEvidence)) a due
   due_met (Some (SelfRun seed count)) a due = due
   due_met (Some (Upgrade o elf notes)) a due =
       read_met s before after sink_before sink_after elf
-      (λ file. AfterImage file (AfterRead s notes (λ text. AfterNotes o file text (λ p x. x ≡ upgrade_answer text))))
-      (λ file. AfterImage file (AfterRead there notes (λ text. AfterNotes o file text (λ p x. x ≡ upgrade_answer text)))) a
-      (λ file. image_next file (AfterRead s notes (λ text. AfterNotes o file text (λ p x. x ≡ upgrade_answer text)))
-      (AfterRead there notes (λ text. AfterNotes o file text (λ p x. x ≡ upgrade_answer text))) a
-      (read_same notes (λ text. AfterNotes o file text (λ p x. x ≡ upgrade_answer text)) a)) due
+      (λ file. AfterImage file (AfterRead s notes (λ text. AfterFrames o file text (λ w x. x ≡ upgrade_answer text))))
+      (λ file. AfterImage file (AfterRead there notes (λ text. AfterFrames o file text (λ w x. x ≡ upgrade_answer text)))) a
+      (λ file. image_next file (AfterRead s notes (λ text. AfterFrames o file text (λ w x. x ≡ upgrade_answer text)))
+      (AfterRead there notes (λ text. AfterFrames o file text (λ w x. x ≡ upgrade_answer text))) a
+      (read_same notes (λ text. AfterFrames o file text (λ w x. x ≡ upgrade_answer text)) a)) due
   due_met (Some (Model o elf notes answer q b)) a due =
-      both_met o elf notes (λ file p. AfterBudgets p b (AfterRead s answer (IsModelAnswer p (layout_of o file) b q)))
-      (λ file p. AfterBudgets p b (AfterRead there answer (IsModelAnswer p (layout_of o file) b q))) a
-      (λ file p. budgets_next p b (AfterRead s answer (IsModelAnswer p (layout_of o file) b q)) (AfterRead there answer (IsModelAnswer p (layout_of o file) b q)) a
-      (read_same answer (IsModelAnswer p (layout_of o file) b q) a)) due
+      both_met o elf notes (λ file p. AfterBudgets p b (AfterRead s answer (IsAskedModelAnswer p (layout_of o file) b (program_question q))))
+      (λ file p. AfterBudgets p b (AfterRead there answer (IsAskedModelAnswer p (layout_of o file) b (program_question q)))) a
+      (λ file p. budgets_next p b (AfterRead s answer (IsAskedModelAnswer p (layout_of o file) b (program_question q))) (AfterRead there answer (IsAskedModelAnswer p (layout_of o file) b (program_question q))) a
+      (read_same answer (IsAskedModelAnswer p (layout_of o file) b (program_question q)) a)) due
   due_met (Some (Equal o names b)) a due =
       pair_met s before after sink_before sink_after o names a (λ f g p q links. IsPairReported (side_of o f p) (side_of o g q) links b)
       (λ f g p q links. IsPairReported (side_of o f p) (side_of o g q) links b) (λ f g p q links x. x) due

@@ -1,6 +1,5 @@
 pub mod Checked
 pub mod Refused
-pub mod Reported
 pub mod Done
 pub mod MetPairs
 pub mod Ended

@@ -10,7 +10,7 @@ use Rattle.bilv_spec.specs.Run.{Program}
 use Rattle.word_spec.specs.Texts.{line, line_feed, lines, joined, spaced, number_text, word_text}
 use Rattle.command_spec.specs.Work.{item_words, next_item, work_file, work_notes, work_text}
 use Rattle.word_spec.specs.RowFiles.{bytes_of, rv_file}
-use Rattle.call_spec.specs.Calls.{Options, default_options, Answer, Budget, Evidence, NoEvidence, Refutations, EntryRefuted, RunOf, SpentOn, Count, Two, Both, SpentOnPair, plain_answer, default_budget}
+use Rattle.call_spec.specs.Calls.{Options, default_options, Answer, Budget, Evidence, NoEvidence, Refutations, EntryRefuted, RunOf, SpentOn, Count, Two, Both, SpentOnPair, plain_answer, default_budget, Inductive, FromHead, Frames, WithCalls, SpentOnFrame}
 use Rattle.bilv_spec.specs.Files.{layout_of, machine_of, program_of}
 use Rattle.notes_spec.specs.Programs.{vocabulary_of}
 use Rattle.notes_spec.specs.NotesGrammar.{IsNotesText}
@@ -90,6 +90,11 @@ report_has p layout b (FailsReport event at step) (Count n) is = absurd is
 report_has p layout b (FailsReport event at step) (Two x y) is = absurd is
 report_has p layout b (FailsReport event at step) (Both x y z t proof) is = absurd is
 report_has p layout b (FailsReport event at step) (SpentOnPair q proof) is = absurd is
+report_has p layout b (FailsReport event at step) (Inductive w fail second turn) is = absurd is
+report_has p layout b (FailsReport event at step) (FromHead w head) is = absurd is
+report_has p layout b (FailsReport event at step) (Frames list) is = absurd is
+report_has p layout b (FailsReport event at step) (WithCalls rank w list) is = absurd is
+report_has p layout b (FailsReport event at step) (SpentOnFrame rank q proof) is = absurd is
 report_has p layout b (UnrollReport at step) (RunOf w) is = printed_has layout (UnknownBy b.unroll at step) w
 report_has p layout b (UnrollReport at step) NoEvidence is = absurd is
 report_has p layout b (UnrollReport at step) (Refutations w fail turn) is = absurd is
@@ -99,6 +104,11 @@ report_has p layout b (UnrollReport at step) (Count n) is = absurd is
 report_has p layout b (UnrollReport at step) (Two x y) is = absurd is
 report_has p layout b (UnrollReport at step) (Both x y z t proof) is = absurd is
 report_has p layout b (UnrollReport at step) (SpentOnPair q proof) is = absurd is
+report_has p layout b (UnrollReport at step) (Inductive w fail second turn) is = absurd is
+report_has p layout b (UnrollReport at step) (FromHead w head) is = absurd is
+report_has p layout b (UnrollReport at step) (Frames list) is = absurd is
+report_has p layout b (UnrollReport at step) (WithCalls rank w list) is = absurd is
+report_has p layout b (UnrollReport at step) (SpentOnFrame rank q proof) is = absurd is
 report_has p layout b PointsReport e is = budget_has (codes "points") b.points
 report_has p layout b SizeReport e is = budget_has (codes "size") b.size
 report_has p layout b ConflictsReport e is = budget_has (codes "conflicts") b.conflicts

@@ -1,5 +1,5 @@
 -- What is answered to the values of an outside solver.
-use Rattle.std.proofs.Common.{◌≡◌, ◌≤◌, ◌<◌, ℕ, List, [], ◌∷◌, ◌++◌, length, ap, sym, subst, ◌∙◌}
+use Rattle.std.proofs.Common.{◌≡◌, ◌≤◌, ◌<◌, ℕ, List, [], ◌∷◌, ◌++◌, Option, Some, None, length, ap, sym, subst, ◌∙◌}
 use Rattle.std.specs.Prelude.{codes}
 use Rattle.word_spec.specs.Texts.{line, spaced, number_text}
 use Rattle.clause_spec.specs.Checks.{text_limit}
@@ -7,15 +7,16 @@ use Rattle.machine_spec.specs.StateText.{Layout}
 use Rattle.call_spec.specs.Calls.{Answer, Budget, Count, Question, RunOf, Surroundings, AfterRead, plain_answer, read_failed, was_read}
 use Rattle.bilv_spec.specs.Answers.{budget_text}
 use Rattle.bilv_spec.specs.Points.{HasMore, IsPrice}
+use Rattle.bilv_spec.specs.Questions.{Reading}
 use Rattle.bilv_spec.specs.Run.{Program}
 use Rattle.model_spec.specs.ModelText.{ModelFault}
 use Rattle.model_spec.specs.Models as models
-use Rattle.model_spec.specs.Models.{AfterBudgets, IsModelAnswer, ending_text, model_fault_words}
+use Rattle.model_spec.specs.Models.{AfterBudgets, IsAskedModelAnswer, IsFalseModelAnswer, IsModelAnswer, ending_text, model_fault_words}
 use Rattle.program_points.specs.Listed.{IsTooMany}
 use Rattle.program_points.specs.declared.values.PointsFault.TheVariants.{TooMany}
 use Rattle.start_value.specs.Starts.{written_of}
 use Rattle.start_value.specs.declared.start.Start.{Start}
-use Rattle.model_verdict.specs.Judgements.{IsAccepted, IsJudged, IsRefused, IsUntrue}
+use Rattle.model_verdict.specs.Judgements.{IsAccepted, IsJudged, IsRead, IsRefused, IsUntrue}
 use Rattle.model_verdict.specs.Runs.{ending_of}
 use Rattle.model_verdict.specs.declared.judged.End.{End}
 use Rattle.model_verdict.specs.declared.judged.Judged.{Judged}
@@ -44,6 +45,18 @@ module _ (p : Program) (layout : Layout) (b : Budget) (q : Question) (text : Lis
       models.accepted came.reading (written_of start) (ending_of end) short came.is_read.are_numbered came.is_read.are_declared came.is_read.is_answer
       came.is_read.is_reading came.is_true came.shown.ends came.shown.printed is
 
+-- where another question is asked, which is true of no reading
+module _ (p : Program) (layout : Layout) (b : Budget) (text : List ℕ) (short : length text ≤ text_limit) (a : Answer) where
+  pub false_refusal_said : (n : ℕ) (f : ModelFault) (words : List ℕ) → words ≡ model_fault_words f →
+      a ≡ plain_answer 9 (line (codes "model: line" ++ spaced (number_text n ∷ words ∷ []))) → IsRefused p layout b.unroll text n f →
+      IsFalseModelAnswer p layout b text a
+  false_refusal_said n f words same is came =
+      models.faulty n f short came.are_numbered came.are_declared came.is_fault
+      (is ∙ ap (λ w. plain_answer 9 (line (codes "model: line" ++ spaced (number_text n ∷ w ∷ [])))) same)
+
+  pub never_said : (r : Reading) → a ≡ plain_answer 9 (line (codes "model: false")) → IsRead p layout b.unroll text r → IsFalseModelAnswer p layout b text a
+  never_said r is read = models.never_true short read.are_numbered read.are_declared read.is_answer is
+
 -- in the form of a machine
 pub said_in : (p : Program) (b : Budget) (q : Question) (text : List ℕ) (a : Answer) (written form : Layout) (j : Judged) → written ≡ form →
     IsJudged p form b.unroll q text j → (IsJudged p written b.unroll q text j → IsModelAnswer p written b q text a) → IsModelAnswer p form b q text a
@@ -51,11 +64,12 @@ said_in p b q text a written form j same came said =
     subst (λ l. IsModelAnswer p l b q text a) same (said (subst (λ l. IsJudged p l b.unroll q text j) (sym same) came))
 
 -- values that were not read
-pub model_unread : (s : Surroundings) (name : List ℕ) (p : Program) (layout : Layout) (b : Budget) (q : Question) (a : Answer) →
+pub model_unread : (s : Surroundings) (name : List ℕ) (p : Program) (layout : Layout) (b : Budget) (q : Option Question) (a : Answer) →
     IsUnread (s.held name) (s.shelf_before name) (s.shelf_after name) text_limit (plain_answer 9 (line (codes "model: TooLarge"))) a →
-    AfterRead s name (IsModelAnswer p layout b q) a
+    AfterRead s name (IsAskedModelAnswer p layout b q) a
 model_unread s name p layout b q a (failed rose is) = read_failed rose is
-model_unread s name p layout b q a (longer long is) = was_read long.0 long.1 (models.large long.2 is)
+model_unread s name p layout b None a (longer long is) = was_read long.0 long.1 (models.too_large long.2 is)
+model_unread s name p layout b (Some kind) a (longer long is) = was_read long.0 long.1 (models.large long.2 is)
 
 -- ---- within the budgets
 

@@ -1,14 +1,22 @@
 -- Functions whose notes may have invariants: what is found of them, and what is answered about them.
-use Rattle.std.proofs.Common.{◌≡◌, ◌≢◌, ℕ, suc, ◌≤◌, ◌==◌, arith, refl, sym, subst, ◌∙◌, false, true, List, [], ◌∷◌, length}
+use Rattle.std.proofs.Common.{◌≡◌, ◌≢◌, ℕ, suc, ◌≤◌, ◌==◌, arith, refl, ap, sym, subst, ◌∙◌, false, true, List, [], ◌∷◌, Option, Some, None, inl, inr, length}
 use Rattle.std.proofs.lemmas.Bool.Decides.{nat_tests}
-use Rattle.std.specs.Prelude.{codes}
+use Rattle.std.specs.Prelude.{codes, ◌⊎◌, MatchOption}
 use Rattle.std.specs.List.Sorted.{IsStrictlyIncreasing}
-use Rattle.answer_spec.specs.FrameAnswers.{dialect_for, AfterFrames, frames_refused, frames_found, ByInvariants, IsFrameReplayed, too_long}
-use Rattle.answer_spec.specs.Outcomes.{AfterWhole}
-use Rattle.answer_spec.proofs.Wholes.{entry_of_text, without_invariants}
+use Rattle.answer_spec.specs.FrameAnswers.{dialect_for, AfterFrames, frames_refused, frames_found, ByInvariants, ByQuestion, IsFrameReplayed, IsCertifiedWhole, IsReplayedWhole, IsScriptWhole, IsVerifiedWhole, too_long}
+use Rattle.answer_spec.specs.Outcomes.{AfterElf}
+use Rattle.answer_spec.proofs.Wholes.{entry_of_text, question_of, replayed_by_frames, without_invariants}
+use Rattle.bilv_spec.specs.Answers.{IsReported}
+use Rattle.bilv_spec.specs.Certified.{IsCertified}
 use Rattle.bilv_spec.specs.Files.{machine_of, program_of, IsFunctionAt}
 use Rattle.bilv_spec.specs.Notes.{Notes}
-use Rattle.call_spec.specs.Calls.{Options, Answer, plain_answer, Surroundings, AfterRead, read_failed, was_read}
+use Rattle.bilv_spec.specs.Scripts.{IsScriptAnswer}
+use Rattle.call_spec.specs.Calls.{Options, Answer, Budget, Question, plain_answer, program_question, Surroundings, AfterRead, read_failed, was_read}
+use Rattle.call_spec.specs.Framed as framed
+use Rattle.command_line.specs.Commands.{budget_of, frame_question}
+use Rattle.frame_spec.specs.FrameCertified.{IsFrameCertified}
+use Rattle.frame_spec.specs.FrameReports.{last_rank}
+use Rattle.frame_spec.specs.FrameScripts.{IsFrameScriptAnswer}
 use Rattle.call_spec.specs.Outside.{Held, Agrees}
 use Rattle.clause_spec.specs.Checks.{text_limit}
 use Rattle.frame_spec.specs.FrameVerdict.{Whole}
@@ -28,13 +36,13 @@ use Rattle.table_run.specs.FrameEnds.{whole_of}
 use Rattle.word_spec.specs.Texts.{line}
 use Rattle.bilv_top.specs.Answers.{IfStep}
 use Rattle.bilv_top.specs.Due.{AreNotesAnsweredIn, IsFramesAnswer, IsOverFile, IsUnread, failed, longer, unread, refused}
-use Rattle.bilv_top.specs.Frames.{framed_of, IsFramedBy, IsFramedDone, IsSegmented, plain_task}
-use Rattle.bilv_top.specs.Tasks.{IsDone}
+use Rattle.bilv_top.specs.Frames.{framed_of, IsFramedBy, IsFramedDone, IsOfFrames, IsOfProgram, IsSegmented}
 use Rattle.bilv_top.specs.declared.answer.Step.{Step}
 use Rattle.bilv_top.specs.declared.answer.Step.TheVariants.{Answered, Go}
 use Rattle.bilv_top.specs.declared.frame_tasks.FrameTask.{FrameTask}
-use Rattle.bilv_top.specs.declared.frame_tasks.FrameTask.TheVariants.{Report, Replay}
+use Rattle.bilv_top.specs.declared.frame_tasks.FrameTask.TheVariants.{Report, Graph, Script, Certificate, Replay}
 use Rattle.bilv_top.specs.declared.framed.Framed.{Framed}
+use Rattle.bilv_top.specs.declared.tasks.Task.{Task}
 use Rattle.bilv_top.proofs.Refused.{answer_since, elf_accepts, read_since}
 
 -- ---- what is found
@@ -84,37 +92,38 @@ whole_found o file f = whole_of (program_of (machine_of o file) file (notes_of f
 
 -- ---- the answer after both files
 
-module _ (s : Surroundings) (o : Options) (notes file : List ℕ) (Next : Whole → Answer → Type 0) (a : Answer) where
+module _ (s : Surroundings) (o : Options) (notes file : List ℕ) (Next : List ℕ → Whole → Answer → Type 0) (a : Answer) where
   -- no function is found
   notes_answered : IsFramesAnswer (s.held notes) (s.shelf_before notes) (s.shelf_after notes) o file a →
-      AfterRead s notes (λ text. AfterFrames o file text Next) a
+      AfterRead s notes (λ text. AfterFrames o file text (Next text)) a
   notes_answered (unread (failed rose is)) = read_failed rose is
   notes_answered (unread (longer long is)) = was_read long.0 long.1 (frames_refused (line (codes "notes: TooLarge")) (notes_large long.2) is)
   notes_answered (refused text agrees answered) = was_read text agrees (frames_refused answered.0 answered.1 answered.2)
 
   -- a function is found
   notes_found : (f : Framed) → Agrees (s.held notes) f.found.text.items → length f.found.text.items ≤ notes_limit → IsAccepted file → IsFramedBy o file f →
-      Next (whole_found o file f) a → AfterRead s notes (λ text. AfterFrames o file text Next) a
+      Next f.found.text.items (whole_found o file f) a → AfterRead s notes (λ text. AfterFrames o file text (Next text)) a
   notes_found f agrees short accepted by next =
       was_read f.found.text.items agrees
       (frames_found (whole_found o file f) (accepted, short, (framed_of f, f.found.entry, by.says, by.at, refl)) next)
 
-module _ (s : Surroundings) (o : Options) (elf notes file : List ℕ) (Next : List ℕ → Whole → Answer → Type 0) (a : Answer) (held : Held) (before : ℕ)
-    (agrees : Agrees (s.held elf) file) (same : held ≡ s.held notes) (le : s.shelf_before notes ≤ before) where
+module _ (s : Surroundings) (o : Options) (elf notes file : List ℕ) (Next : (file text : List ℕ) → Whole → Answer → Type 0) (a : Answer) (held : Held)
+    (before : ℕ) (agrees : Agrees (s.held elf) file) (same : held ≡ s.held notes) (le : s.shelf_before notes ≤ before) where
   -- no function is found over an ELF file that was read, by what is told of the notes behind that
-  pub framed_answered : AfterImage file (IsFramesAnswer held before (s.shelf_after notes) o file) a → AfterWhole s o elf notes Next a
+  pub framed_answered : AfterImage file (IsFramesAnswer held before (s.shelf_after notes) o file) a →
+      AfterElf s elf (λ file. AfterRead s notes (λ text. AfterFrames o file text (Next file text))) a
   framed_answered (elf_refused written is a_is) = was_read file agrees (elf_refused written is a_is)
   framed_answered (elf_accepted accepted is) =
-      elf_accepts s elf (λ file. AfterRead s notes (λ text. AfterFrames o file text (Next file))) a file agrees accepted
+      elf_accepts s elf (λ file. AfterRead s notes (λ text. AfterFrames o file text (Next file text))) a file agrees accepted
       (notes_answered s o notes file (Next file) a
       (answer_since dialect_for (s.held notes) (s.shelf_before notes) before (s.shelf_after notes) o file a le
       (subst (λ h. IsFramesAnswer h before (s.shelf_after notes) o file a) same is)))
 
   -- a function is found
   pub framed_read : (f : Framed) → IsAccepted file → Agrees held f.found.text.items → length f.found.text.items ≤ notes_limit → IsFramedBy o file f →
-      Next file (whole_found o file f) a → AfterWhole s o elf notes Next a
+      Next file f.found.text.items (whole_found o file f) a → AfterElf s elf (λ file. AfterRead s notes (λ text. AfterFrames o file text (Next file text))) a
   framed_read f accepted told short by next =
-      elf_accepts s elf (λ file. AfterRead s notes (λ text. AfterFrames o file text (Next file))) a file agrees accepted
+      elf_accepts s elf (λ file. AfterRead s notes (λ text. AfterFrames o file text (Next file text))) a file agrees accepted
       (notes_found s o notes file (Next file) a f (subst (λ h. Agrees h f.found.text.items) same told) short accepted by next)
 
 -- ---- the answer to a task
@@ -141,37 +150,86 @@ read_next : (s : Surroundings) (name : List ℕ) (Next Other : List ℕ → Answ
 read_next s name Next Other a step (read_failed rose is) = read_failed rose is
 read_next s name Next Other a step (was_read bytes agrees next) = was_read bytes agrees (step bytes next)
 
--- without invariants
-pub plain_done : (s : Surroundings) (t : FrameTask) (layout : Layout) (w : Whole) (a : Answer) → w.invariants ≡ [] →
-    IsDone s (plain_task t) layout w.program a → IsFramedDone s t layout w a
-plain_done s (Report budget) layout w a none done = (without_invariants w.invariants _ _ none).1 done
-plain_done s (Replay name) layout w a none done =
-    read_next s name.now _ _ a (λ report next. (without_invariants w.invariants _ _ none).1 next) done
+-- ---- by whether there are invariants, and whether a question is one of a program
+
+-- what is due to a question of a frame
+framed_due : (invariants : List ℕ) (o : Option Question) (Plain : Question → Type 0) (Framed : Type 0) → (o ≡ None) ⊎ (invariants ≢ []) → Framed →
+    ByQuestion invariants o Plain Framed
+framed_due [] None Plain Framed h is = is
+framed_due [] (Some kind) Plain Framed (inl none) is = absurd (let no : ⊥ = cc in no)
+framed_due [] (Some kind) Plain Framed (inr some) is = absurd (some refl)
+framed_due (n ∷ rest) o Plain Framed h is = is
+
+due_with : (invariants : List ℕ) (A B : Type 0) → invariants ≢ [] → B → ByInvariants invariants A B
+due_with [] A B some is = absurd (some refl)
+due_with (n ∷ rest) A B some is = is
+
+-- what is answered as of a program, where there are none
+module _ (layout : Layout) (b : Budget) (w : Whole) (a : Answer) (none : w.invariants ≡ []) where
+  pub reported_plain : IsReported w.program layout b a → IsVerifiedWhole layout b w a
+  reported_plain done = (without_invariants w.invariants _ _ none).1 done
+
+  module _ (question : framed.Question) (kind : Question) (is : Some kind ≡ program_question question) where
+    pub certified_plain : IsCertified w.program b kind a.status a.text a.evidence → IsCertifiedWhole b question w a
+    certified_plain done =
+        (question_of w.invariants (program_question question) kind (λ q. IsCertified w.program b q a.status a.text a.evidence)
+        (IsFrameCertified w (last_rank w) b question a.status a.text a.evidence) none (sym is)).1 done
+
+    pub scripted_plain : IsScriptAnswer w.program layout b kind a → IsScriptWhole layout b question w a
+    scripted_plain done =
+        (question_of w.invariants (program_question question) kind (λ q. IsScriptAnswer w.program layout b q a)
+        (IsFrameScriptAnswer w (last_rank w) layout b question a) none (sym is)).1 done
+
+-- what is asked of frames is so answered: a question about head states, the graph, the replay of a report
+module _ (s : Surroundings) (layout : Layout) (w : Whole) (a : Answer) where
+  pub certified_framed : (b : Budget) (question : framed.Question) → (program_question question ≡ None) ⊎ (w.invariants ≢ []) →
+      IsFrameCertified w (last_rank w) b question a.status a.text a.evidence → IsCertifiedWhole b question w a
+  certified_framed b question other done =
+      framed_due w.invariants (program_question question) (λ kind. IsCertified w.program b kind a.status a.text a.evidence) _ other done
+
+  pub scripted_framed : (b : Budget) (question : framed.Question) → (program_question question ≡ None) ⊎ (w.invariants ≢ []) →
+      IsFrameScriptAnswer w (last_rank w) layout b question a → IsScriptWhole layout b question w a
+  scripted_framed b question other done =
+      framed_due w.invariants (program_question question) (λ kind. IsScriptAnswer w.program layout b kind a) _ other done
+
+  pub replayed_framed : (name : List ℕ) → AfterRead s name (IsFrameReplayed w layout) a → AfterRead s name (λ report. IsReplayedWhole layout report w) a
+  replayed_framed name done = read_next s name _ _ a (λ report next. replayed_by_frames w layout report a next) done
+
+  segmented_done : (t : FrameTask) → w.invariants ≢ [] → IsSegmented s t layout w a → IsFramedDone s t layout w a
+  segmented_done (Report budget) some done = due_with w.invariants _ _ some done
+  segmented_done Graph some done = done
+  segmented_done (Script question budget) some done = scripted_framed (budget_of budget) (frame_question question) (inr some) done
+  segmented_done (Certificate question budget) some done = certified_framed (budget_of budget) (frame_question question) (inr some) done
+  segmented_done (Replay name) some done = replayed_framed name.now done
 
 -- a list of no elements
-pub none_of : (ns : List ℕ) (n : ℕ) → n ≡ length ns → (n == 0) ≡ true → ns ≡ []
+none_of : (ns : List ℕ) (n : ℕ) → n ≡ length ns → (n == 0) ≡ true → ns ≡ []
 none_of [] n count is = refl
 none_of (x ∷ ns) n count is =
     let e : n ≡ 0 = grind (arith, nat_tests) in let c : n ≡ suc (length ns) = count in absurd (omega (arith, e, c))
 
 -- with some
-pub some_of : (k n : ℕ) → n ≡ k → (n == 0) ≡ false → k ≢ 0
-some_of k n count is zero = let e : n ≢ 0 = grind (arith, nat_tests) in e (count ∙ zero)
+some_of : (ns : List ℕ) (n : ℕ) → n ≡ length ns → (n == 0) ≡ false → ns ≢ []
+some_of ns n count is none = let e : n ≢ 0 = grind (arith, nat_tests) in e (count ∙ ap (λ (x : List ℕ). length x) none)
 
-due_with : (invariants : List ℕ) (A B : Type 0) → length invariants ≢ 0 → B → ByInvariants invariants A B
-due_with [] A B some is = absurd (some refl)
-due_with (n ∷ rest) A B some is = is
+-- a task of a program is one where there are no invariants, and one over frames where there are
+pub is_program_task : (t : FrameTask) (ns : List ℕ) (n : ℕ) (r : Option Task) → n ≡ length ns → (n == 0) ≡ true →
+    MatchOption r ((invariants : List ℕ) → IsOfFrames t invariants) (IsOfProgram t []) → MatchOption r (IsOfFrames t ns) (IsOfProgram t ns)
+is_program_task t ns n (Some plain) count is same = subst (λ i. IsOfProgram t i plain) (sym (none_of ns n count is)) same
+is_program_task t ns n None count is same = same ns
 
-pub segmented_done : (s : Surroundings) (t : FrameTask) (layout : Layout) (w : Whole) (a : Answer) → length w.invariants ≢ 0 → IsSegmented s t layout w a →
-    IsFramedDone s t layout w a
-segmented_done s (Report budget) layout w a some done = due_with w.invariants _ _ some done
-segmented_done s (Replay name) layout w a some done = read_next s name.now _ _ a (λ report next. due_with w.invariants _ _ some next) done
+pub is_frame_task : (t : FrameTask) (ns : List ℕ) (n : ℕ) → n ≡ length ns → (n == 0) ≡ false → IsOfFrames t ns
+is_frame_task t ns n count is s layout w a same done =
+    segmented_done s layout w a t (λ none. some_of ns n count is (sym same ∙ none)) done
 
 -- since before other files were read
 pub framed_since : (s t : Surroundings) (asked : FrameTask) (layout : Layout) (w : Whole) (a : Answer) → ((n : List ℕ) → s.held n ≡ t.held n) →
     ((n : List ℕ) → t.shelf_before n ≤ s.shelf_before n) → ((n : List ℕ) → s.shelf_after n ≡ t.shelf_after n) → IsFramedDone s asked layout w a →
     IsFramedDone t asked layout w a
 framed_since s t (Report budget) layout w a held before after done = done
+framed_since s t Graph layout w a held before after done = done
+framed_since s t (Script question budget) layout w a held before after done = done
+framed_since s t (Certificate question budget) layout w a held before after done = done
 framed_since s t (Replay name) layout w a held before after done =
     read_since s t name.now _ a (held name.now) (before name.now) (after name.now) done
 

@@ -8,14 +8,16 @@ use Rattle.cnf_form.specs.Views.{proof_of}
 use Rattle.pair_form.specs.Views.{pair_question_of}
 use Rattle.pair_verdict.specs.Verdicts.{holding_of}
 use Rattle.question_form.specs.Views.{kind_of}
+use Rattle.call_form.specs.Views.{frame_question}
 use Rattle.start_value.specs.Starts.{written_of}
+use Rattle.state_text.specs.Starts.{written_head_of}
 use Rattle.verdict.specs.declared.verdicts.Exceeded.{Exceeded}
 use Rattle.verdict.specs.declared.verdicts.Exceeded.TheVariants.{Points, Size}
 use Rattle.elf32_reader.specs.declared.fault.ElfFault.{ElfFault}
 use Rattle.elf32_reader.specs.declared.fault.ElfFault.TheVariants.{Short, Magic, Class, Data, Version, «Type», Machine, HeaderTable, SegmentRange, FileSize, Overlap, SymbolTable, Memory}
 use Rattle.bilv_top.specs.declared.answer.Answer.{Answer}
 use Rattle.bilv_top.specs.declared.answer.Evidence.{Evidence}
-use Rattle.bilv_top.specs.declared.answer.Evidence.TheVariants.{None as Nothing, Refutations, EntryRefuted, RunOf, SpentOn, Count, Two, Both, SpentOnPair}
+use Rattle.bilv_top.specs.declared.answer.Evidence.TheVariants.{None as Nothing, Refutations, EntryRefuted, RunOf, SpentOn, Inductive, FromHead, SpentOnFrame, Count, Two, Both, SpentOnPair}
 use Rattle.bilv_top.specs.declared.answer.Step.{Step}
 use Rattle.bilv_top.specs.declared.answer.Step.TheVariants.{Answered, Go}
 
@@ -26,6 +28,9 @@ evidence_of (Refutations start fail turn) = spec.Refutations (written_of start) 
 evidence_of (EntryRefuted proof) = spec.EntryRefuted (proof_of proof)
 evidence_of (RunOf start) = spec.RunOf (written_of start)
 evidence_of (SpentOn question proof) = spec.SpentOn (kind_of question) (proof_of proof)
+evidence_of (Inductive start fail step turn) = spec.Inductive (written_of start) (proof_of fail) (proof_of step) (proof_of turn)
+evidence_of (FromHead start head) = spec.FromHead (written_of start) (written_head_of head)
+evidence_of (SpentOnFrame rank question proof) = spec.SpentOnFrame rank (frame_question question) (proof_of proof)
 evidence_of (Count n) = spec.Count n
 evidence_of (Two first second) = spec.Two (written_of first) (written_of second)
 evidence_of (Both first second first_start second_start difference) =

@@ -32,10 +32,8 @@ files_of_line (Some c) = files_of c
 -- those that a task names besides the program's
 abbrev pub names_of_task : Task → List (List ℕ)
 names_of_task (task.Report budget) = []
-names_of_task task.Graph = []
 names_of_task (task.Script question budget) = []
 names_of_task (task.Certificate question budget) = []
-names_of_task (task.Replay name) = name.now ∷ []
 names_of_task (task.Model question budget name) = name.now ∷ []
 
 -- and besides those of two functions

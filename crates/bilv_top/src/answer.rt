@@ -2,8 +2,9 @@
 use cnf_form::Proof;
 use pair_form::PairKind;
 use pair_verdict::Holding;
-use question_form::Kind;
+use question_form::{Asked, Kind};
 use start_value::Start;
+use state_text::HeadStart;
 
 /// What shows that an answer is right.
 #[derive(Drop)]
@@ -23,6 +24,24 @@ pub enum Evidence {
     /// A question, and the search that spent the conflicts on it.
     SpentOn {
         question: Kind,
+        proof: Proof,
+    },
+    /// An entry state, and that no segment from one fails, none from a head state, and none makes too many backward transfers.
+    Inductive {
+        start: Start,
+        fail: Proof,
+        step: Proof,
+        turn: Proof,
+    },
+    /// A start, and the head state from which the segment goes that ends as the answer says.
+    FromHead {
+        start: Start,
+        head: HeadStart,
+    },
+    /// A question of the frame of a rank, and the search that spent the conflicts on it. Without contracts the entry's frame is the one frame, of rank 0.
+    SpentOnFrame {
+        rank: u32,
+        question: Asked,
         proof: Proof,
     },
     /// Two starts, one of each function, whose runs exit apart.

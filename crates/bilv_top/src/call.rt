@@ -59,20 +59,20 @@ fn obey<H: Shelf>(alloc: Global, command: Command, shelf: &mut H) -> Result<Answ
             elf,
             notes,
             options,
-        } => answer_about(alloc, shelf, elf, notes, options, Task::Graph),
+        } => answer_framed(alloc, shelf, elf, notes, options, FrameTask::Graph),
         Command::Script {
             elf,
             notes,
             options,
             question,
             budget,
-        } => answer_about(
+        } => answer_framed(
             alloc,
             shelf,
             elf,
             notes,
             options,
-            Task::Script(question, budget),
+            FrameTask::Script(question, budget),
         ),
         Command::Replay {
             elf,
@@ -86,13 +86,13 @@ fn obey<H: Shelf>(alloc: Global, command: Command, shelf: &mut H) -> Result<Answ
             options,
             question,
             budget,
-        } => answer_about(
+        } => answer_framed(
             alloc,
             shelf,
             elf,
             notes,
             options,
-            Task::Certificate(question, budget),
+            FrameTask::Certificate(question, budget),
         ),
         Command::Model {
             elf,

@@ -1,5 +1,5 @@
 //! The answer that certifies a question.
-ghost use Rattle.std.specs.Prelude.{◌≡◌, IfOk};
+ghost use Rattle.std.specs.Prelude.{◌≡◌, ℕ, List, IfOk};
 ghost use Rattle.call_spec.specs.Calls.{plain_answer};
 ghost use Rattle.clause_spec.specs.Certificates.{certificate_text};
 ghost use Rattle.bilv_spec.specs.Certified.{IsCertified};
@@ -9,18 +9,25 @@ ghost use Rattle.bilv_top.specs.Answers.{answer_of};
 ghost use Rattle.bilv_top.specs.Chosen.{IsMachineOf};
 ghost use Rattle.bilv_top.specs.Due.{IsOverFile};
 ghost use Rattle.cnf_form.specs.Views.{cnf_of, lines_of};
-ghost use Rattle.command_line.specs.Commands.{budget_of, kind_of};
+ghost use Rattle.call_form.specs.Views.{frame_question, kind_of};
+ghost use Rattle.command_line.specs.Commands.{budget_of};
+ghost use Rattle.frame_spec.specs.FrameCertified.{IsFrameCertified};
+ghost use Rattle.frame_verdict.specs.FrameCertificates.{IsFrameCertificate};
+ghost use Rattle.machine_spec.specs.Machine.{IsAtPlace};
+ghost use Rattle.table_run.specs.FrameEnds.{whole_of};
 ghost use Rattle.notes_value.specs.NoteViews.{notes_of};
 ghost use Rattle.verdict.specs.Verdicts.{IsCertificate};
 
 use crate::answer::{Answer, Evidence};
+use crate::framed::Framed;
 use crate::inputs::Found;
 use crate::reading::answer;
 use crate::reports::{beyond, exceeded};
 use cnf_form::{Proof, print_cnf};
-use command_line::{Budget, Kind};
+use command_line::{Asked, Budget, Kind};
 use elf32_reader::Image;
 use exit_status::{DONE, FAILS};
+use frame_verdict::certify_frame;
 use machine_law::Machine;
 use refutation_checker::print_lrat;
 use std::alloc::{AllocError, Global};
@@ -90,4 +97,58 @@ pub fn certify_by<M: Machine>(
         question,
     )?;
     say(alloc, budget, question, certified)
+}
+
+/// The answer to what a question of the entry's frame comes to within budgets. The error is want of memory.
+fn say_frame(
+    alloc: Global,
+    budget: Budget,
+    question: Asked,
+    certified: Certified,
+) -> Result<Answer, AllocError>
+    ensures { IfOk result (λ a. (p : Program) (invariants : List ℕ) →
+        IsFrameCertificate (whole_of p invariants) (budget_of budget) (frame_question question) certified →
+        IsFrameCertified (whole_of p invariants) 0 (budget_of budget) (frame_question question) (answer_of a).status (answer_of a).text (answer_of a).evidence) }
+{
+    match certified {
+        Certified::Exceeded(past) => beyond(alloc, budget, past),
+        Certified::Conflicts(proof) => {
+            let spent = Evidence::SpentOnFrame {
+                rank: 0,
+                question,
+                proof,
+            };
+            exceeded(alloc, b"conflicts", budget.conflicts, spent)
+        }
+        Certified::Satisfiable => answer(alloc, FAILS, b"satisfiable\n"),
+        Certified::Refuted(proof) => print_proof(alloc, &proof),
+    }
+}
+
+/// The answer to a question about a function of a machine whose notes may have invariants. The error is want of memory.
+pub fn certify_frames_by<M: Machine>(
+    alloc: Global,
+    image: &Image,
+    framed: &Framed,
+    budget: Budget,
+    question: Asked,
+) -> Result<Answer, AllocError>
+    requires machine { IsMachineOf image.now M.machine }
+    requires found { IsOverFile image.now framed.now.found }
+    requires place { IsAtPlace M.machine.narrow framed.now.found.entry }
+    ensures { IfOk result (λ a. IsFrameCertified
+        (whole_of (program_of M.machine image.now (notes_of framed.now.found.notes) framed.now.found.entry) framed.now.invariants.items) 0 (budget_of budget)
+        (frame_question question) (answer_of a).status (answer_of a).text (answer_of a).evidence) }
+{
+    let found = &framed.found;
+    let certified = certify_frame::<M>(
+        alloc,
+        image,
+        &found.notes,
+        &framed.invariants,
+        found.entry,
+        &budget,
+        question,
+    )?;
+    say_frame(alloc, budget, question, certified)
 }

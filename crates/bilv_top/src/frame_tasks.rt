@@ -1,5 +1,5 @@
 //! What is asked about a function whose notes may have invariants, and its answer on the machine of the file.
-ghost use Rattle.std.specs.Prelude.{◌≡◌, ◌≢◌, ◌≤◌, ℕ, List, [], ◌∷◌, IfOk};
+ghost use Rattle.std.specs.Prelude.{◌≡◌, ◌≤◌, ℕ, List, [], ◌∷◌, IfOk, IfSome, MatchOption};
 ghost use Rattle.bilv_spec.specs.Files.{layout_of, machine_of, program_of};
 ghost use Rattle.machine_spec.specs.Machine.{IsAtPlace};
 ghost use Rattle.std.specs.List.Sorted.{IsStrictlyIncreasing};
@@ -12,17 +12,21 @@ ghost use Rattle.io_edges.specs.Begun.{AreBegun};
 ghost use Rattle.bilv_top.specs.Answers.{answer_of};
 ghost use Rattle.bilv_top.specs.Chosen.{IsMachineOf};
 ghost use Rattle.bilv_top.specs.Due.{IsOverFile};
-ghost use Rattle.bilv_top.specs.Frames.{IsFramedBy, IsFramedDone, IsSegmented, names_of_frame_task, plain_task};
+ghost use Rattle.bilv_top.specs.Frames.{IsFramedDone, IsOfFrames, IsOfProgram, IsSegmented, names_of_frame_task};
+ghost use Rattle.bilv_top.specs.Reads.{names_of_task};
 
 use crate::answer::{Answer, Step};
+use crate::certify::certify_frames_by;
 use crate::framed::{Framed, read_framed};
+use crate::graph::graph_by;
 use crate::inputs::read_elf;
 use crate::machines::{layout, on_machine};
 use crate::replay::replay_frames_by;
+use crate::script::script_frames_by;
 use crate::tasks::{Task, answer_on};
 use crate::verify::report_frames_by;
 use arm_lift::Arm;
-use command_line::{Budget, Options};
+use command_line::{Asked, Budget, Options};
 use elf32_reader::Image;
 use io_edges::Shelf;
 use machine_law::Machine;
@@ -35,21 +39,50 @@ use std::alloc::{AllocError, Global};
 pub enum FrameTask<'a> {
     /// The report of its verdict within budgets.
     Report(Budget),
+    /// Its flow graph.
+    Graph,
+    /// The script of a question, within budgets.
+    Script(Asked, Budget),
+    /// The certificate of a question, within budgets.
+    Certificate(Asked, Budget),
     /// Whether the segment, or the run, from the start of the report of this name ends as the report says.
     Replay(&'a str),
 }
 
-/// The same, of a function without invariants.
-fn without_invariants<'a>(task: FrameTask<'a>) -> Task<'a>
-    ensures { result ≡ plain_task task.entry }
+/// The same as a task of a program, if it is one where there are no invariants. The graph and the replay of a report are those of frames in any case, and so is
+/// a question about head states.
+fn as_program<'a>(task: FrameTask<'a>) -> Option<Task<'a>>
+    ensures names { IfSome result (λ t. names_of_task t ≡ names_of_frame_task task.entry) }
+    ensures same { MatchOption result ((invariants : List ℕ) → IsOfFrames task.entry invariants) (IsOfProgram task.entry []) }
 {
     match task {
-        FrameTask::Report(budget) => Task::Report(budget),
-        FrameTask::Replay(name) => Task::Replay(name),
+        FrameTask::Report(budget) => Some(Task::Report(budget)),
+        FrameTask::Script(question, budget) => {
+            let kind = question.program()?;
+            Some(Task::Script(kind, budget))
+        }
+        FrameTask::Certificate(question, budget) => {
+            let kind = question.program()?;
+            Some(Task::Certificate(kind, budget))
+        }
+        FrameTask::Graph => None,
+        FrameTask::Replay(_) => None,
     }
 }
 
-/// The answer to a task about a function of a machine whose notes have invariants. The error is out of memory.
+/// The task of a program that is answered to a task about a function with these notes, if it is one.
+fn plain_task<'a>(framed: &Framed, task: FrameTask<'a>) -> Option<Task<'a>>
+    ensures names { IfSome result (λ t. names_of_task t ≡ names_of_frame_task task.entry) }
+    ensures same { MatchOption result (IsOfFrames task.entry framed.now.invariants.items) (IsOfProgram task.entry framed.now.invariants.items) }
+{
+    if framed.invariants.is_empty() {
+        as_program(task)
+    } else {
+        None
+    }
+}
+
+/// The answer over frames to a task about a function of a machine. The error is out of memory.
 #[tactic(auto, using(io_edges::proofs::Beginning::begun_none))]
 fn answer_framed_by<M: Machine, H: Shelf>(
     alloc: Global,
@@ -70,6 +103,13 @@ fn answer_framed_by<M: Machine, H: Shelf>(
 {
     match task {
         FrameTask::Report(budget) => report_frames_by::<M>(alloc, image, framed, budget),
+        FrameTask::Graph => graph_by::<M>(alloc, image, &framed.found),
+        FrameTask::Script(question, budget) => {
+            script_frames_by::<M>(alloc, image, framed, budget, question)
+        }
+        FrameTask::Certificate(question, budget) => {
+            certify_frames_by::<M>(alloc, image, framed, budget, question)
+        }
         FrameTask::Replay(name) => replay_frames_by::<M, H>(alloc, shelf, image, framed, name),
     }
 }
@@ -126,7 +166,7 @@ fn answer_segmented_on<H: Shelf>(
     )
 }
 
-/// The answer to a task about a function, by whether its notes have invariants. The error is out of memory.
+/// The answer to a task about a function, as one about a program where it is one. The error is out of memory.
 fn answer_framed_on<H: Shelf>(
     alloc: Global,
     shelf: &mut H,
@@ -146,11 +186,10 @@ fn answer_framed_on<H: Shelf>(
         (whole_of (program_of (machine_of (options_of options) image.now) image.now (notes_of framed.now.found.notes) framed.now.found.entry)
         framed.now.invariants.items) (answer_of a)) }
 {
-    if framed.invariants.is_empty() {
-        let task = without_invariants(task);
-        return answer_on(alloc, shelf, image, &framed.found, options, task);
+    match plain_task(framed, task) {
+        Some(plain) => answer_on(alloc, shelf, image, &framed.found, options, plain),
+        None => answer_segmented_on(alloc, shelf, image, framed, options, task),
     }
-    answer_segmented_on(alloc, shelf, image, framed, options, task)
 }
 
 /// The answer to a task about the function that the ELF file and the notes of two names are, or to what refuses them. The error is out of memory, which a price

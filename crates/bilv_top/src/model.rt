@@ -2,16 +2,18 @@
 ghost use Rattle.std.specs.Prelude.{◌≡◌, ◌≤◌, ◌++◌, ◌∷◌, [], ℕ, List, codes, length, IfOk};
 ghost use Rattle.word_spec.specs.Texts.{line, number_text, spaced};
 ghost use Rattle.clause_spec.specs.Checks.{text_limit};
+ghost use Rattle.machine_spec.specs.StateText as texts;
 ghost use Rattle.machine_spec.specs.StateText.{block_text, printed};
 ghost use Rattle.call_spec.specs.Calls as answers;
-ghost use Rattle.call_spec.specs.Calls.{AfterRead, plain_answer, Question as AskedQuestion};
+ghost use Rattle.call_spec.specs.Calls.{AfterRead, plain_answer, program_question, Question as AskedQuestion};
 ghost use Rattle.bilv_spec.specs.Files.{program_of};
 ghost use Rattle.bilv_spec.specs.Run.{Program};
-ghost use Rattle.model_spec.specs.Models.{AfterBudgets, IsModelAnswer, ending_text};
+ghost use Rattle.model_spec.specs.Models.{AfterBudgets, IsAskedModelAnswer, IsFalseModelAnswer, IsModelAnswer, ending_text};
 ghost use Rattle.io_edges.specs.Met.{seen};
 ghost use Rattle.model_verdict.specs.Judgements.{IsJudged};
 ghost use Rattle.model_verdict.specs.Runs.{ending_of};
 ghost use Rattle.notes_value.specs.NoteViews.{notes_of};
+ghost use Rattle.call_form.specs.Views.{frame_question};
 ghost use Rattle.question_form.specs.Views.{kind_of, unrolled_of};
 ghost use Rattle.start_value.specs.Starts.{layout_of, written_of};
 ghost use Rattle.state_text.specs.Starts.{named_of};
@@ -35,7 +37,7 @@ use io_edges::Shelf;
 use machine_law::Machine;
 use model_verdict::{End, Judged, judge};
 use program_points::PointsFault;
-use question_form::{Kind, Passive, Unrolled};
+use question_form::{Asked, Kind, Passive, Unrolled};
 use start_value::{Layout, Start};
 use state_text::{NamedEnding, StateText, print_state, push_block};
 use std::alloc::{AllocError, Global};
@@ -119,6 +121,13 @@ fn refused(alloc: Global, number: u64, words: &[u8]) -> Result<Answer, AllocErro
     })
 }
 
+/// The answer that a question is not true of values. The error is want of memory.
+fn untrue(alloc: Global) -> Result<Answer, AllocError>
+    ensures { IfOk result (λ a. answer_of a ≡ plain_answer 9 (line (codes "model: false"))) }
+{
+    answer(alloc, TEXT_REFUSED, b"model: false\n")
+}
+
 /// The answer to what the text of values is judged to be. The error is want of memory.
 fn say(alloc: Global, form: Layout, budget: &Budget, judged: Judged) -> Result<Answer, AllocError>
     ensures { IfOk result (λ a. (p : Program) (question : AskedQuestion) (text : List ℕ) → length text ≤ text_limit →
@@ -127,19 +136,63 @@ fn say(alloc: Global, form: Layout, budget: &Budget, judged: Judged) -> Result<A
 {
     match judged {
         Judged::Refused { line, kind } => refused(alloc, line, model_fault_text(kind)),
-        Judged::Untrue => answer(alloc, TEXT_REFUSED, b"model: false\n"),
+        Judged::Untrue => untrue(alloc),
         Judged::Accepted { end, start } => accepted(alloc, form, budget, end, start),
     }
 }
 
-/// The answer to the text of values for a question about a program of a machine. The error is want of memory, or of numbers for points.
-fn judge_text<M: Machine>(
+/// The answer to what the text of values is judged to be by some question of a program, where another one is asked that is true of no reading. The error is want
+/// of memory.
+fn say_false(alloc: Global, judged: &Judged) -> Result<Answer, AllocError>
+    ensures { IfOk result (λ a. (p : Program) (layout : texts.Layout) (b : answers.Budget) (kind : AskedQuestion) (text : List ℕ) → length text ≤ text_limit →
+        IsJudged p layout b.unroll kind text judged.now → IsFalseModelAnswer p layout b text (answer_of a)) }
+{
+    match judged {
+        Judged::Refused { line, kind } => refused(alloc, *line, model_fault_text(*kind)),
+        Judged::Untrue => untrue(alloc),
+        Judged::Accepted { .. } => untrue(alloc),
+    }
+}
+
+/// Judges the text of values for a question of a program of a machine. The error is want of memory, or of numbers for points.
+fn judge_values<M: Machine>(
     alloc: Global,
     image: &Image,
     found: &Found,
     budget: &Budget,
     passive: &Passive,
     kind: Kind,
+    text: &[u8],
+) -> Result<Judged, AllocError>
+    requires machine { IsMachineOf image.now M.machine }
+    requires found { IsOverFile image.now found.now }
+    requires ground { IsGround (program_of M.machine image.now (notes_of found.now.notes) found.now.entry) budget.now.unroll M.form
+        (unrolled_of passive.now.unrolled.now) }
+    requires points { length (unrolled_of passive.now.unrolled.now).points ≤ budget.now.points }
+    requires askable { IsAskable passive.now }
+    requires form { layout_of passive.now.unrolled.now.form ≡ M.form }
+    requires text { length text.now ≤ text_limit }
+    ensures { IfOk result (IsJudged (program_of M.machine image.now (notes_of found.now.notes) found.now.entry) M.form budget.now.unroll (kind_of kind)
+        text.now) }
+{
+    let function = Function {
+        image,
+        notes: &found.notes,
+        entry: found.entry,
+    };
+    let judged = judge::<M>(alloc, &function, budget, passive, kind, text)?;
+    Ok(judged)
+}
+
+/// The answer to the text of values for a question about a program of a machine. A program has no head states, so that the question about them is true of none,
+/// and the text is judged for its faults alone. The error is want of memory, or of numbers for points.
+fn judge_text<M: Machine>(
+    alloc: Global,
+    image: &Image,
+    found: &Found,
+    budget: &Budget,
+    passive: &Passive,
+    question: Asked,
     text: &[u8],
 ) -> Result<Answer, AllocError>
     requires machine { IsMachineOf image.now M.machine }
@@ -150,17 +203,23 @@ fn judge_text<M: Machine>(
     requires askable { IsAskable passive.now }
     requires form { layout_of passive.now.unrolled.now.form ≡ M.form }
     requires text { length text.now ≤ text_limit }
-    ensures { IfOk result (λ a. IsModelAnswer (program_of M.machine image.now (notes_of found.now.notes) found.now.entry) M.form (budget_of budget.now)
-        (kind_of kind) text.now (answer_of a)) }
+    ensures { IfOk result (λ a. IsAskedModelAnswer (program_of M.machine image.now (notes_of found.now.notes) found.now.entry) M.form (budget_of budget.now)
+        (program_question (frame_question question)) text.now (answer_of a)) }
 {
-    let function = Function {
-        image,
-        notes: &found.notes,
-        entry: found.entry,
-    };
-    let judged = judge::<M>(alloc, &function, budget, passive, kind, text)?;
-    let answer = say(alloc, M::layout(), budget, judged)?;
-    Ok(answer)
+    let asked = question.program();
+    match asked {
+        Some(kind) => {
+            let judged = judge_values::<M>(alloc, image, found, budget, passive, kind, text)?;
+            let answer = say(alloc, M::layout(), budget, judged)?;
+            Ok(answer)
+        }
+        None => {
+            let kind = Kind::Entry;
+            let judged = judge_values::<M>(alloc, image, found, budget, passive, kind, text)?;
+            let answer = say_false(alloc, &judged)?;
+            Ok(answer)
+        }
+    }
 }
 
 /// The answer to the values of a name for a question about a passive program. The error is want of memory, or of numbers for points.
@@ -171,7 +230,7 @@ fn judge_passive<M: Machine, H: Shelf>(
     found: &Found,
     budget: &Budget,
     passive: &Passive,
-    kind: Kind,
+    question: Asked,
     name: &str,
 ) -> Result<Answer, AllocError>
     requires machine { IsMachineOf image.now M.machine }
@@ -185,7 +244,8 @@ fn judge_passive<M: Machine, H: Shelf>(
     ensures never_falls { (n : List ℕ) → H.faults shelf.old n ≤ H.faults shelf.new n }
     ensures begun { AreBegun (H.begun shelf.old) (H.begun shelf.new) (name.now ∷ []) }
     ensures read { IfOk result (λ a. AfterRead (seen (H.holds shelf.old) (H.faults shelf.old) (H.faults shelf.new)) name.now
-        (IsModelAnswer (program_of M.machine image.now (notes_of found.now.notes) found.now.entry) M.form (budget_of budget.now) (kind_of kind))
+        (IsAskedModelAnswer (program_of M.machine image.now (notes_of found.now.notes) found.now.entry) M.form (budget_of budget.now)
+        (program_question (frame_question question)))
         (answer_of a)) }
 {
     let large = b"model: TooLarge\n";
@@ -193,7 +253,7 @@ fn judge_passive<M: Machine, H: Shelf>(
         Step::Go(text) => text,
         Step::Answered(answer) => return Ok(answer),
     };
-    let answer = judge_text::<M>(alloc, image, found, budget, passive, kind, &text)?;
+    let answer = judge_text::<M>(alloc, image, found, budget, passive, question, &text)?;
     Ok(answer)
 }
 
@@ -206,7 +266,7 @@ fn judge_unrolled<M: Machine, H: Shelf>(
     found: &Found,
     budget: &Budget,
     unrolled: &Unrolled,
-    kind: Kind,
+    question: Asked,
     name: &str,
 ) -> Result<Answer, AllocError>
     requires machine { IsMachineOf image.now M.machine }
@@ -218,13 +278,14 @@ fn judge_unrolled<M: Machine, H: Shelf>(
     ensures begun { AreBegun (H.begun shelf.old) (H.begun shelf.new) (name.now ∷ []) }
     ensures priced { IfOk result (λ a. AfterBudgets (program_of M.machine image.now (notes_of found.now.notes) found.now.entry) (budget_of budget.now)
         (AfterRead (seen (H.holds shelf.old) (H.faults shelf.old) (H.faults shelf.new)) name.now
-        (IsModelAnswer (program_of M.machine image.now (notes_of found.now.notes) found.now.entry) M.form (budget_of budget.now) (kind_of kind)))
+        (IsAskedModelAnswer (program_of M.machine image.now (notes_of found.now.notes) found.now.entry) M.form (budget_of budget.now)
+        (program_question (frame_question question))))
         (answer_of a)) }
 {
     match measure(alloc, budget, unrolled)? {
         Measured::Above(price) => beyond(alloc, *budget, Exceeded::Size { price }),
         Measured::Within(passive) => judge_passive::<M, H>(
-            alloc, shelf, image, found, budget, &passive, kind, name,
+            alloc, shelf, image, found, budget, &passive, question, name,
         ),
     }
 }
@@ -238,7 +299,7 @@ pub fn model_by<M: Machine, H: Shelf>(
     image: &Image,
     found: &Found,
     budget: Budget,
-    question: Kind,
+    question: Asked,
     name: &str,
 ) -> Result<Answer, AllocError>
     requires machine { IsMachineOf image.now M.machine }
@@ -248,7 +309,8 @@ pub fn model_by<M: Machine, H: Shelf>(
     ensures begun { AreBegun (H.begun shelf.old) (H.begun shelf.new) (name.now ∷ []) }
     ensures judged { IfOk result (λ a. AfterBudgets (program_of M.machine image.now (notes_of found.now.notes) found.now.entry) (budget_of budget)
         (AfterRead (seen (H.holds shelf.old) (H.faults shelf.old) (H.faults shelf.new)) name.now
-        (IsModelAnswer (program_of M.machine image.now (notes_of found.now.notes) found.now.entry) M.form (budget_of budget) (kind_of question)))
+        (IsAskedModelAnswer (program_of M.machine image.now (notes_of found.now.notes) found.now.entry) M.form (budget_of budget)
+        (program_question (frame_question question))))
         (answer_of a)) }
 {
     match unroll_within::<M>(alloc, image, &found.notes, found.entry, &budget) {

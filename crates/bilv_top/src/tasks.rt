@@ -14,15 +14,13 @@ ghost use Rattle.bilv_top.specs.Reads.{names_of_task};
 
 use crate::answer::{Answer, Step};
 use crate::certify::certify_by;
-use crate::graph::graph_by;
 use crate::inputs::{Found, read_elf, read_program};
 use crate::machines::{layout, on_machine};
 use crate::model::model_by;
-use crate::replay::replay_by;
 use crate::script::script_by;
 use crate::verify::report_by;
 use arm_lift::Arm;
-use command_line::{Budget, Kind, Options};
+use command_line::{Asked, Budget, Kind, Options};
 use elf32_reader::Image;
 use io_edges::Shelf;
 use machine_law::Machine;
@@ -35,16 +33,12 @@ use std::alloc::{AllocError, Global};
 pub enum Task<'a> {
     /// The report of its verdict within budgets.
     Report(Budget),
-    /// Its flow graph.
-    Graph,
     /// The script of a question, within budgets.
     Script(Kind, Budget),
     /// The certificate of a question, within budgets.
     Certificate(Kind, Budget),
-    /// Whether the run from the start of the report of this name ends as the report says.
-    Replay(&'a str),
     /// Whether a question is true of the values of this name, within budgets.
-    Model(Kind, Budget, &'a str),
+    Model(Asked, Budget, &'a str),
 }
 
 /// The answer to a task about a program of a machine. The error is out of memory.
@@ -66,12 +60,10 @@ fn answer_by<M: Machine, H: Shelf>(
 {
     match task {
         Task::Report(budget) => report_by::<M>(alloc, image, found, budget),
-        Task::Graph => graph_by::<M>(alloc, image, found),
         Task::Script(question, budget) => script_by::<M>(alloc, image, found, budget, question),
         Task::Certificate(question, budget) => {
             certify_by::<M>(alloc, image, found, budget, question)
         }
-        Task::Replay(name) => replay_by::<M, H>(alloc, shelf, image, found, name),
         Task::Model(question, budget, name) => model_by::<M, H>(
             alloc, shelf, image, found, budget, question, name,
         ),

@@ -8,7 +8,8 @@ ghost use Rattle.bilv_top.specs.Answers.{answer_of};
 ghost use Rattle.io_edges.specs.Begun.{AreBegun};
 
 use crate::answer::{Answer, Evidence, Step};
-use crate::inputs::{NOTES_LIMIT, read_elf, read_program};
+use crate::framed::read_framed;
+use crate::inputs::{NOTES_LIMIT, read_elf};
 use crate::reading::answer;
 use command_line::Options;
 use exit_status::{DONE, NOTES_REFUSED};
@@ -49,8 +50,8 @@ pub fn upgrade<H: Shelf>(
         Step::Go(file) => file,
         Step::Answered(answer) => return Ok(answer),
     };
-    match read_program(alloc, shelf, &file, notes, options)? {
-        Step::Go((_, found)) => print_again(alloc, &found.text),
+    match read_framed(alloc, shelf, &file, notes, options)? {
+        Step::Go((_, framed)) => print_again(alloc, &framed.found.text),
         Step::Answered(answer) => Ok(answer),
     }
 }

@@ -29,7 +29,7 @@ returns-in-Go-2-clause-answered g c =
     let found = rw c.in-Go-2.is at c.in_ok-image.ensures.read in
     let f = c.in-Go-2.framed in
     IfOk-weaker c.answer_framed_on.result _ _
-    (λ a done. framed_read s o c.args.elf.now notes file (λ file. IsFramedDone s c.args.task (layout_of o file)) (answer_of a)
+    (λ a done. framed_read s o c.args.elf.now notes file (λ file text. IsFramedDone s c.args.task (layout_of o file)) (answer_of a)
     (g.H.Shelf.holds c.read_elf.new.shelf notes) (g.H.Shelf.faults c.read_elf.new.shelf notes)
     agrees (c.read_elf.ensures.keeps notes) (c.read_elf.ensures.never_falls notes) f found.1 found.2 found.3 found.4
     (framed_since t s c.args.task (layout_of o file) (whole_found o file f) (answer_of a) (λ n. c.read_framed.ensures.keeps n ∙ c.read_elf.ensures.keeps n)
@@ -44,7 +44,7 @@ returns-clause-answered g c =
     let notes = c.args.notes.now in
     let o = options_of c.args.options in
     let s = seen (g.H.Shelf.holds c.args.shelf.now) (g.H.Shelf.faults c.args.shelf.now) (g.H.Shelf.faults c.read_framed.new.shelf) in
-    framed_answered s o c.args.elf.now notes c.deref.result.now (λ file. IsFramedDone s c.args.task (layout_of o file)) (answer_of c.in-Answered-2.answer)
+    framed_answered s o c.args.elf.now notes c.deref.result.now (λ file text. IsFramedDone s c.args.task (layout_of o file)) (answer_of c.in-Answered-2.answer)
     (g.H.Shelf.holds c.read_elf.new.shelf notes)
     (g.H.Shelf.faults c.read_elf.new.shelf notes) agrees (c.read_elf.ensures.keeps notes) (c.read_elf.ensures.never_falls notes)
     (rw c.in-Answered-2.is at c.in_ok-image.ensures.read)

@@ -1,22 +1,32 @@
+use Rattle.std.proofs.Common.{Option, Some, None, sym, subst}
 use Rattle.bilv_spec.specs.Files.{program_of}
+use Rattle.call_spec.specs.Calls.{Question, EntryQuestion, program_question}
+use Rattle.call_form.specs.Views.{frame_question}
+use Rattle.model_spec.specs.Models.{IsAskedModelAnswer}
 use Rattle.notes_value.specs.NoteViews.{notes_of}
 use Rattle.question_form.specs.Views.{kind_of}
 use Rattle.start_value.specs.Starts.{layout_of}
 use Rattle.verdict.specs.Verdicts.{budget_of}
 use Rattle.bilv_top.specs.Answers.{answer_of}
-use Rattle.bilv_top.proofs.Founds.{found_readable, machine_order}
 use Rattle.bilv_top.proofs.Modelled.{said_in}
 use Rattle.bilv_top.proofs.model.judge_text.Goals as goal
 
-pub judge-requires-clause-order : goal.judge-requires-clause-order
-judge-requires-clause-order g c = machine_order c.args.image.now g.M.Machine.machine c.requires.machine
-
-pub judge-requires-clause-readable : goal.judge-requires-clause-readable
-judge-requires-clause-readable g c = found_readable c.args.image.now c.args.found.now g.M.Machine.machine c.requires.machine c.requires.found
-
-pub returns : goal.returns
-returns g c =
+pub returns-in_ok-answer-in-Some : goal.returns-in_ok-answer-in-Some
+returns-in_ok-answer-in-Some g c =
     let p = program_of g.M.Machine.machine c.args.image.now (notes_of c.args.found.now.notes) c.args.found.now.entry in
-    said_in p (budget_of c.args.budget.now) (kind_of c.args.kind) c.args.text.now (answer_of c.in_ok-answer.answer) (layout_of c.layout.result)
-    g.M.Machine.form c.in_ok-judged.judged c.layout.ensures c.in_ok-judged.ensures
-    (c.in_ok-answer.ensures p (kind_of c.args.kind) c.args.text.now c.requires.text)
+    let b = budget_of c.args.budget.now in
+    let text = c.args.text.now in
+    let a = answer_of c.in_ok-answer-in-Some.answer in
+    let q = kind_of c.in-Some.kind in
+    subst (λ (asked : Option Question). IsAskedModelAnswer p g.M.Machine.form b asked text a) (rw c.in-Some.is at c.program-asked.ensures)
+    (said_in p b q text a (layout_of c.layout.result) g.M.Machine.form c.in_ok-judged-in-Some.judged c.layout.ensures c.in_ok-judged-in-Some.ensures
+    (c.in_ok-answer-in-Some.ensures p q text c.requires.text))
+
+pub returns-in_ok-answer-in-None : goal.returns-in_ok-answer-in-None
+returns-in_ok-answer-in-None g c =
+    let p = program_of g.M.Machine.machine c.args.image.now (notes_of c.args.found.now.notes) c.args.found.now.entry in
+    let b = budget_of c.args.budget.now in
+    let text = c.args.text.now in
+    subst (λ (asked : Option Question). IsAskedModelAnswer p g.M.Machine.form b asked text (answer_of c.in_ok-answer-in-None.answer))
+    (rw c.in-None.is at c.program-asked.ensures)
+    (c.in_ok-answer-in-None.ensures p g.M.Machine.form b EntryQuestion text c.requires.text c.in_ok-judged-in-None.ensures)

@@ -1,11 +1,12 @@
 use Rattle.std.proofs.Common.{◌∙◌, ◌≤◌, ap, length, subst, sym}
 use Rattle.std.proofs.lemmas.Result.{IfOk-weaker}
 use Rattle.bilv_spec.specs.Files.{program_of}
-use Rattle.call_spec.specs.Calls.{AfterRead}
+use Rattle.call_spec.specs.Calls.{AfterRead, program_question}
 use Rattle.io_edges.specs.Met.{seen}
-use Rattle.model_spec.specs.Models.{IsModelAnswer, within}
+use Rattle.model_spec.specs.Models.{IsAskedModelAnswer, within}
 use Rattle.notes_value.specs.NoteViews.{notes_of}
-use Rattle.question_form.specs.Views.{kind_of, unrolled_of}
+use Rattle.call_form.specs.Views.{frame_question}
+use Rattle.question_form.specs.Views.{unrolled_of}
 use Rattle.question_form.specs.declared.unrolled.Unrolled.{Unrolled}
 use Rattle.start_value.specs.Starts.{layout_of}
 use Rattle.verdict.specs.Verdicts.{budget_of}
@@ -20,7 +21,7 @@ returns-in-Above-clause-priced g c =
     let b = budget_of c.args.budget.now in
     let s = seen (g.H.Shelf.holds c.args.shelf.now) (g.H.Shelf.faults c.args.shelf.now) (g.H.Shelf.faults c.args.shelf.now) in
     IfOk-weaker c.beyond.result _ _
-    (λ a is. size_exceeded p b (AfterRead s c.args.name.now (IsModelAnswer p g.M.Machine.form b (kind_of c.args.kind))) (answer_of a) c.in-Above.price is
+    (λ a is. size_exceeded p b (AfterRead s c.args.name.now (IsAskedModelAnswer p g.M.Machine.form b (program_question (frame_question c.args.question)))) (answer_of a) c.in-Above.price is
     (came_above b c.args.unrolled.now c.in_ok-price.field-0 c.in_ok-price.ensures c.in-Above.price c.in-Above.is p g.M.Machine.form c.requires.unrolled))
     c.beyond.ensures
 

@@ -1,10 +1,10 @@
 use Rattle.std.proofs.lemmas.Result.{IfOk-weaker}
 use Rattle.bilv_spec.specs.Files.{program_of}
-use Rattle.call_spec.specs.Calls.{AfterRead}
+use Rattle.call_spec.specs.Calls.{AfterRead, program_question}
 use Rattle.io_edges.specs.Met.{seen}
-use Rattle.model_spec.specs.Models.{IsModelAnswer}
+use Rattle.model_spec.specs.Models.{IsAskedModelAnswer}
 use Rattle.notes_value.specs.NoteViews.{notes_of}
-use Rattle.question_form.specs.Views.{kind_of}
+use Rattle.call_form.specs.Views.{frame_question}
 use Rattle.verdict.specs.Verdicts.{budget_of}
 use Rattle.bilv_top.specs.Answers.{answer_of}
 use Rattle.bilv_top.proofs.Founds.{found_over, machine_order}
@@ -23,5 +23,5 @@ returns-in-Err-TooMany-clause-judged g c =
     let b = budget_of c.args.budget in
     let s = seen (g.H.Shelf.holds c.args.shelf.now) (g.H.Shelf.faults c.args.shelf.now) (g.H.Shelf.faults c.args.shelf.now) in
     IfOk-weaker c.beyond.result _ _
-    (λ a is. points_exceeded p b (AfterRead s c.args.name.now (IsModelAnswer p g.M.Machine.form b (kind_of c.args.question))) (answer_of a)
+    (λ a is. points_exceeded p b (AfterRead s c.args.name.now (IsAskedModelAnswer p g.M.Machine.form b (program_question (frame_question c.args.question)))) (answer_of a)
     c.in-Err-TooMany.count is (rw c.in-Err-TooMany.field-0-is at c.in-Err-TooMany.ensures.more)) (rw c.in-Err-TooMany.field-0-is at c.beyond.ensures)

@@ -14,9 +14,9 @@ returns-in-Refused c =
 
 pub returns-in-Untrue : goal.returns-in-Untrue
 returns-in-Untrue c =
-    IfOk-weaker c.answer.result _ _
+    IfOk-weaker c.untrue.result _ _
     (λ a is p question text short came. untrue_said p (layout_of c.args.form) (budget_of c.args.budget.now) question text short (answer_of a) is
-    (rw c.in-Untrue.is at came)) c.answer.ensures
+    (rw c.in-Untrue.is at came)) c.untrue.ensures
 
 pub returns-in-Accepted : goal.returns-in-Accepted
 returns-in-Accepted c =

@@ -2,7 +2,7 @@ use Rattle.std.proofs.lemmas.Result.{IfOk-weaker}
 use Rattle.bilv_spec.specs.Files.{program_of}
 use Rattle.bilv_top.proofs.Founds.{found_over, machine_order}
 use Rattle.bilv_top.proofs.script.script_by.Goals as goal
-use Rattle.command_line.specs.Commands.{kind_of}
+use Rattle.call_form.specs.Views.{kind_of}
 use Rattle.notes_value.specs.NoteViews.{notes_of}
 
 pub script-requires-clause-order : goal.script-requires-clause-order
