@@ -103,6 +103,10 @@ impl<const BIG: u8, const PROFILE: u8> Machine for Arm<BIG, PROFILE> {
         State::new(pc, &start.regs, start.flags, memory)
     }
 
+    fn give(state: &mut State, start: &Start, pc: u32) {
+        state.give(pc, &start.regs, start.flags)
+    }
+
     fn copy(alloc: Global, state: &State) -> Result<State, AllocError> {
         state.copy(alloc)
     }

@@ -83,6 +83,18 @@ impl State {
         }
     }
 
+    /// Changes the registers r0 to r14, which are given in order, the flags, which are those of a number, as N 8, Z 4, C 2 and V 1, and the address.
+    pub fn give(&mut self, pc: u32, registers: &[u32], flags: u8)
+        requires registers { length registers.now ≡ 15 }
+        requires flags { flags < 16 }
+        ensures state { state_of self.new ≡ record (state_of self.old) { pc = pc; regs = registers_of registers.now; flags = λ f. bit_at f flags } }
+        ensures spare { spare_of self.new ≡ spare_of self.old }
+    {
+        self.pc = pc;
+        self.registers = Registers::of(registers);
+        self.flags = Flags::of(flags);
+    }
+
     /// Makes room for stores of `n` bytes. The error is want of memory, and nothing has changed.
     pub fn reserve(&mut self, n: usize) -> Result<(), AllocError>
         ensures state { OnOk result (state_of self.new ≡ state_of self.old) }

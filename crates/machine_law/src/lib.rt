@@ -3,7 +3,7 @@
 //! Everything above this crate is written once for any machine and believes only what stands here.
 #![tactic(auto)]
 
-ghost use Rattle.std.specs.Prelude.{◌≡◌, ◌≤◌, ◌<◌, ◌+◌, ◌^◌, ℕ, Some, length, option_map, IfOk, OnOk, OnErr};
+ghost use Rattle.std.specs.Prelude.{◌≡◌, ◌≤◌, ◌<◌, ◌+◌, ◌^◌, ℕ, Some, [], length, option_map, IfOk, OnOk, OnErr};
 ghost use Rattle.machine_spec.specs.Machine as table;
 ghost use Rattle.machine_spec.specs.MachineLaws.{IsFitted, IsLawfulMachine, IsLifting, with_memory};
 ghost use Rattle.word_spec.specs.Memory.{Little, store};
@@ -119,6 +119,13 @@ pub trait Machine {
         requires { IsFit form (written_of start.now) }
         ensures view { Self.State.view result ≡ made form (written_of start.now) pc memory.entries }
         ensures room { spare result ≡ memory.spare };
+
+    /// Puts the registers and the flags of a start into a state, at an address. The memory stays: the start's bytes and choices play no part. The start has to
+    /// have the registers and the flags of the form, and no more. It takes no memory.
+    fn give(state: &mut Self::State, start: &Start, pc: u32)
+        requires { IsFit form (written_of start.now) }
+        ensures view { Self.State.view state.new ≡ with_memory (made form (written_of start.now) pc []) (Self.State.view state.old).mem }
+        ensures room { spare state.new ≡ spare state.old };
 
     /// An equal state; its room is open. The error is want of memory.
     fn copy(alloc: Global, state: &Self::State) -> Result<Self::State, AllocError>

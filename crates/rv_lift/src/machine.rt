@@ -111,6 +111,10 @@ impl<const RVC: u8> Machine for Rv32<RVC> {
         State::from_registers(pc, &start.regs, memory)
     }
 
+    fn give(state: &mut State, start: &Start, pc: u32) {
+        state.give(pc, &start.regs)
+    }
+
     fn copy(alloc: Global, state: &State) -> Result<State, AllocError> {
         state.copy(alloc)
     }

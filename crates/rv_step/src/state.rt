@@ -87,6 +87,16 @@ impl State {
         }
     }
 
+    /// Changes the registers x1 to x31, which are given in order, and the address.
+    pub fn give(&mut self, pc: u32, registers: &[u32])
+        requires { length registers.now ≡ 31 }
+        ensures state { state_of self.new ≡ record (state_of self.old) { pc = pc; regs = registers_of (0 ∷ registers.now) } }
+        ensures spare { spare_of self.new ≡ spare_of self.old }
+    {
+        self.pc = pc;
+        self.registers = Registers::of(registers);
+    }
+
     /// Changes a register; x0 keeps its value.
     pub fn set(&mut self, rd: Register, value: u32)
         ensures state { state_of self.new ≡ with_reg (state_of self.old) rd.number value }

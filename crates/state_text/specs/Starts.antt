@@ -4,7 +4,7 @@ use Rattle.word_spec.specs.Texts.{joined, lines}
 use Rattle.machine_spec.specs.Endings as run
 use Rattle.machine_spec.specs.StateText as texts
 use Rattle.frame_spec.specs.Frames as frames
-use Rattle.frame_spec.specs.FrameReports.{WrittenHead}
+use Rattle.frame_spec.specs.FrameReports.{WrittenHead, WrittenCall}
 use Rattle.start_value.specs.Starts.{written_of}
 use Rattle.state_text.specs.declared.start.Event.{Event}
 use Rattle.state_text.specs.declared.start.Event.TheVariants.{AssertFails, FetchFails, NoRow, HalfwordFails, CodeWritten, Trapped, AlignFails, JumpFails, EnsureFails}
@@ -13,6 +13,7 @@ use Rattle.state_text.specs.declared.start.FrameEvent.TheVariants.{OfStep, Invar
 use Rattle.state_text.specs.declared.start.NamedEnding.{NamedEnding}
 use Rattle.state_text.specs.declared.start.NamedEnding.TheVariants.{FailsBy, UnknownBy}
 use Rattle.state_text.specs.declared.start.HeadStart.{HeadStart}
+use Rattle.state_text.specs.declared.start.CallState.{CallState}
 use Rattle.state_text.specs.declared.start.StateText.{StateText}
 
 -- the event
@@ -44,6 +45,10 @@ text_of t = record { named = named_of t.named; start = written_of t.start }
 -- a head state with its choices, as it is written
 abbrev pub written_head_of : HeadStart → WrittenHead
 written_head_of h = record { at = h.at; stack = h.stack.items; start = written_of h.start }
+
+-- what a contract step is given, as it is written
+abbrev pub written_call_of : CallState → WrittenCall
+written_call_of c = record { step = c.step; at = c.at; regs = c.regs.items; flags = c.flags; bytes = c.bytes.items }
 
 -- the text of a line, without its line feed
 abbrev pub line_text : texts.Layout → texts.StateLine → List ℕ

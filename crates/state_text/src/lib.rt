@@ -13,8 +13,10 @@ pub use line_tokens::{Sign, Token, tokens};
 pub use parser::{first_named, parse_state};
 pub use printer::{
     print_state, push_block, push_bytes, push_choices, push_ending, push_event, push_flags,
-    push_machine, push_number, push_registers, push_step, push_text, push_word,
+    push_machine, push_number, push_registers, push_step, push_text, push_value, push_word,
 };
-pub use start::{Event, FrameEvent, HeadStart, NamedEnding, StateText};
+pub use start::{CallState, Event, FrameEvent, HeadStart, NamedEnding, StateText};
 pub use state_fault::{ParseFault, StateFault};
-pub use state_line::{event_of_line, event_of_word, is_word, place_of};
+pub use state_line::{
+    StateLine, event_of_line, event_of_word, is_word, place_of, state_line as line_of,
+};

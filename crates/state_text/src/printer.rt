@@ -143,8 +143,8 @@ pub fn push_machine(out: &mut Vec<u8>, layout: Layout) -> Result<(), AllocError>
     Ok(())
 }
 
-/// Appends the line of the value of a register or a flag by its place.
-fn push_value(
+/// Appends the line of the value of a register or a flag by its place. What an `Err` leaves is open.
+pub fn push_value(
     alloc: Global,
     out: &mut Vec<u8>,
     layout: Layout,

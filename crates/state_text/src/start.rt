@@ -53,6 +53,21 @@ pub struct HeadStart {
     pub stack: Vec<u32>,
 }
 
+/// What a contract step is given, which a run makes in place of the calls of a contract's function.
+#[derive(Drop, Debug)]
+pub struct CallState {
+    /// The number of the step.
+    pub step: u64,
+    /// The address of the contract.
+    pub at: u32,
+    /// The registers that the contract may change, in the machine's order.
+    pub regs: Vec<u32>,
+    /// The flags, as N 8, Z 4, C 2 and V 1; those that the contract may not change play no part.
+    pub flags: u8,
+    /// Bytes by their addresses.
+    pub bytes: Vec<(u32, u8)>,
+}
+
 /// A start with the ending that its report names.
 #[derive(Drop, Debug)]
 pub struct StateText {

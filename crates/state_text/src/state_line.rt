@@ -16,9 +16,10 @@ use std::alloc::{AllocError, Global};
 
 /// What a line of the grammar says. A choice above 3 is taken for 4, which no line may have.
 #[derive(Clone, Copy, PartialEq, Eq, Debug)]
-pub(crate) enum StateLine {
+pub enum StateLine {
     Named(NamedEnding),
     Machine,
+    /// A register or a flag, by its place among the names of the layout.
     Register { place: usize, value: u32 },
     Byte { at: u32, value: u8 },
     Choice { step: u32, choice: u8 },
@@ -277,7 +278,11 @@ fn line_of_words(layout: Layout, words: &[&[u8]]) -> Option<StateLine>
 }
 
 /// What a line says, if it is of the grammar.
-pub(crate) fn state_line(
+///
+/// # Errors
+///
+/// Where memory runs out.
+pub fn state_line(
     alloc: Global,
     layout: Layout,
     text: &[u8],

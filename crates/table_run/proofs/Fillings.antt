@@ -20,13 +20,13 @@ use Rattle.table_run.specs.Traces.{byte_over, reached_row, row_stores, is_met, A
 
 -- ---- a byte that is stored
 
-store_here : (m : Memory) (a b : ℕ) → a < 2 ^ 32 → b < 256 → store Little 1 m a b a ≡ b
+pub store_here : (m : Memory) (a b : ℕ) → a < 2 ^ 32 → b < 256 → store Little 1 m a b a ≡ b
 store_here m a b low small =
     let at : sub 32 a a ≡ 0 = omega arith in
     let bottom : byte_of Little 1 b 0 ≡ b = omega arith in
     ap (λ n. if nat_lt n 1 then byte_of Little 1 b n else m a) at ∙ bottom
 
-store_other : (m : Memory) (a b x : ℕ) → a < 2 ^ 32 → x < 2 ^ 32 → (x ≡ a → ⊥) → store Little 1 m a b x ≡ m x
+pub store_other : (m : Memory) (a b x : ℕ) → a < 2 ^ 32 → x < 2 ^ 32 → (x ≡ a → ⊥) → store Little 1 m a b x ≡ m x
 store_other m a b x low below ne =
     let away : nat_lt (sub 32 x a) 1 ≡ false = grind (arith, nat_tests) in
     ap (λ t. if t then byte_of Little 1 b (sub 32 x a) else m x) away

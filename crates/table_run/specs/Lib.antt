@@ -6,3 +6,6 @@ pub mod Steps
 pub mod Traces
 pub mod Exits
 pub mod FrameEnds
+pub mod Spans
+pub mod CalledFrames
+pub mod CalledRuns

@@ -83,3 +83,79 @@ pub(crate) enum FrameStepEnd {
     /// The exit, where each ensure line is true.
     Leaves,
 }
+
+/// How a run of a frame fails that steps over contracts; it has no heads.
+#[derive(Clone, Copy, PartialEq, Eq, Debug)]
+pub enum CalledEvent {
+    /// As a run of the tables may.
+    OfStep(Event),
+    /// What a called contract needs, by its line of the notes, is false.
+    NeedsFails { line: u32 },
+    /// A store to a byte that the frame's contract may not write.
+    WritesFails,
+    /// What the frame's contract has to give at the exit, by its line of the notes, is false.
+    GivesFails { line: u32 },
+    /// A register or a flag has changed that the frame's contract may not change.
+    ModifiesFails,
+}
+
+/// What a run of a frame comes to that steps over contracts, with the address and the number of the last step that was made; steps are counted from 0, and a
+/// contract step is one.
+#[derive(Clone, Copy, PartialEq, Eq, Debug)]
+pub enum CalledEnding {
+    /// The function returned, and what is judged at its exit is true.
+    Exit {
+        at: u32,
+        step: u64,
+    },
+    /// An event.
+    Failed {
+        event: CalledEvent,
+        at: u32,
+        step: u64,
+    },
+    /// One backward transfer more than is allowed.
+    Turned {
+        at: u32,
+        step: u64,
+    },
+    /// None of these within the steps that were allowed.
+    Left {
+        at: u32,
+        step: u64,
+    },
+    /// The contract step of this number is not given what it has to be given, or what is given there is given to no contract step.
+    NoCall {
+        step: u64,
+    },
+    /// What the contract step is given breaks what its contract gives, by its line of the notes.
+    NotGiven {
+        line: u32,
+        at: u32,
+        step: u64,
+    },
+}
+
+/// What a run comes to, and whether one of its steps was a contract step.
+#[derive(Clone, Copy, PartialEq, Eq, Debug)]
+pub struct CalledRun {
+    pub called: bool,
+    pub ending: CalledEnding,
+}
+
+/// What a step comes to in a frame that steps over contracts; the state and the stack are those that it leaves.
+#[derive(Clone, Copy, PartialEq, Eq, Debug)]
+pub(crate) enum CalledStepEnd {
+    /// An event.
+    Halts(CalledEvent),
+    /// A place at which a row is executed next.
+    GoesTo,
+    /// A contract that is stepped over.
+    Calls,
+    /// The exit, where what is judged there is true.
+    Leaves,
+    /// No run: what a contract step is given breaks a line of what its contract gives.
+    Breaks { line: u32 },
+    /// What is given is given to no contract step, or none is given to one.
+    NoCall,
+}

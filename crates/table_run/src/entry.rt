@@ -21,7 +21,7 @@ use machine_law::Machine;
 use notes_value::Notes;
 
 /// The first address of a part at which a state has another byte.
-fn first_other<V: View>(part: &Part, state: &V) -> Option<u32>
+pub(crate) fn first_other<V: View>(part: &Part, state: &V) -> Option<u32>
     requires { part.now.first ≤ part.now.last }
     ensures { MatchOption result (HasBytesTo (V.view state.now).mem part.now (part.now.last + 1)) (IsFirstOther (V.view state.now).mem part.now) }
 {

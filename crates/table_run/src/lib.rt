@@ -1,13 +1,22 @@
-//! Runs of a machine's instruction table over a program: whether a state may be the entry state, what a run from a start comes to, and what one from the state
-//! of a model comes to and reads.
+//! Runs of a machine's instruction table over a program: whether a state may be the entry state; what a run from a start comes to, also in a frame that is cut
+//! at heads or steps over contracts; and what one from the state of a model comes to and reads.
 #![tactic(auto)]
 
+mod blocks;
+mod called;
+mod called_entry;
+mod called_rows;
+mod called_turns;
+mod changes;
 mod choices;
+mod contract_steps;
 mod cuts;
 mod ending;
 mod entry;
 mod exits;
 mod filling;
+mod frame;
+mod gifts;
 mod heads;
 mod jumps;
 mod lines;
@@ -16,11 +25,14 @@ mod model_bytes;
 mod program;
 mod reads;
 mod runs;
+mod spans;
 mod steps;
 mod tracing;
 mod words;
 
-pub use ending::{Ending, EntryFault, FrameEnding};
+pub use called::{RankedFrame, called_state, run_called};
+pub use called_entry::called_entry_ok;
+pub use ending::{CalledEnding, CalledEvent, CalledRun, Ending, EntryFault, FrameEnding};
 pub use entry::{entry_ok, lines_ok};
 pub use exits::exit_state;
 pub use heads::{head_ok, head_state};

@@ -174,7 +174,7 @@ pub fn start_state<M: Machine>(
 }
 
 /// How many backward transfers are within a bound, or, without one, within so many steps.
-fn turns_within(k: Option<u64>, limit: u64) -> u64
+pub(crate) fn turns_within(k: Option<u64>, limit: u64) -> u64
     requires { 1 ≤ limit }
     ensures { result ≡ reports.turns_within (limit - 1) k }
 {

@@ -20,12 +20,12 @@ pub(crate) fn writes_kept(image: &Image, stored: Option<(u32, u8)>) -> bool
 {
     match stored {
         None => false,
-        Some((first, count)) => any_kept(image, first, count),
+        Some((first, count)) => any_kept(image, first, u32::from(count)),
     }
 }
 
 /// One of so many bytes from an address on is kept. Addresses wrap.
-fn any_kept(image: &Image, first: u32, count: u8) -> bool
+pub(crate) fn any_kept(image: &Image, first: u32, count: u32) -> bool
     ensures { result ≡ list_any (λ x. is_kept (loaded image.now x)) (memory.span first count) }
 {
     let mut at = first;

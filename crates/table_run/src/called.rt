@@ -1,0 +1,307 @@
+//! A run of a frame that steps over contracts.
+ghost use Rattle.std.specs.Prelude.{◌≡◌, ℕ, ◌≤◌, ◌<◌, ◌+◌, ◌-◌, ◌||◌, All, AllPairs, IfOk, IfSome, List, Some, length, map, slice_get, take};
+ghost use Rattle.bilv_spec.specs.Files.{order_of};
+ghost use Rattle.bilv_spec.specs.PointLaws.{HasLawfulRows};
+ghost use Rattle.bilv_spec.specs.Points.{is_known_at};
+ghost use Rattle.bilv_spec.specs.Reports as reports;
+ghost use Rattle.machine_spec.specs.StateText.{AreRising, IsWritten};
+ghost use Rattle.frame_spec.specs.FrameFound.{found};
+ghost use Rattle.frame_spec.specs.FrameReports.{IsWrittenCall, WrittenCall};
+ghost use Rattle.frame_texts_spec.specs.CallReplays.{block_after, has_called};
+ghost use Rattle.start_value.specs.Starts.{written_of};
+ghost use Rattle.notes_value.specs.NoteViews.{notes_of};
+ghost use Rattle.notes_value.specs.FrameViews.{contract_of};
+ghost use Rattle.notes_value.specs.Reads.{AreReadable, IsReadableContract};
+ghost use Rattle.state_text.specs.Starts.{written_call_of};
+ghost use Rattle.word_spec.specs.Memory as memory;
+ghost use Rattle.frame_spec.specs.Frames.{written};
+ghost use Rattle.table_run.specs.Spans.{bytes_of};
+ghost use Rattle.table_run.specs.Programs.{program_of};
+ghost use Rattle.table_run.specs.FrameEnds.{HasKept};
+ghost use Rattle.table_run.specs.CalledFrames.{IsBlock, IsOwnAt, IsRunnable, called_frame, frame_in, own_of, is_contract, next_of};
+ghost use Rattle.table_run.specs.CalledRuns.{AreChanged, IsEnded, IsFoundAs, IsLast, IsRun, called_start, cause_of, cause_within, frame_of_rank, start_called, whole_in};
+
+use crate::blocks::{block_at, step_after};
+use crate::called_turns::{Stand, turn};
+use crate::choices::choice_at;
+use crate::ending::{CalledEnding, CalledRun, CalledStepEnd};
+use crate::frame::{CallFrame, Own};
+use crate::memory::memory_given;
+use crate::program::Program;
+use crate::runs::{Limits, next_turns, start_state, turns_within};
+use crate::spans::{Span, writable};
+use byte_mem::View;
+use elf32_reader::Image;
+use machine_law::Machine;
+use notes_index::index_of;
+use notes_value::{Contract, Notes};
+use start_value::Start;
+use state_text::CallState;
+use std::alloc::{AllocError, Global};
+
+/// A frame of a file and of notes with contracts, which are in the order of their ranks: that of the contract of a rank, whose calls step over the contracts of
+/// lower ranks, or, with as many as there are contracts for its rank, that of the function at `entry`, whose calls step over all contracts.
+#[derive(Clone, Copy)]
+pub struct RankedFrame<'a, 'b> {
+    pub image: &'a Image<'b>,
+    pub notes: &'a Notes,
+    pub contracts: &'a [Contract],
+    pub entry: u32,
+    pub rank: usize,
+}
+
+/// An ending at a step, or that of the first block after it.
+fn ended(calls: &[CallState], step: u64, called: bool, ending: CalledEnding) -> CalledRun
+    ensures called { result.called ≡ called }
+    ensures ending { IsEnded (block_after (map written_call_of calls.now) step) ending result.ending }
+{
+    match step_after(calls, step) {
+        None => CalledRun { called, ending },
+        Some(step) => CalledRun {
+            called,
+            ending: CalledEnding::NoCall { step },
+        },
+    }
+}
+
+/// Where a run stands after a step, if it goes on.
+fn next_stand(end: CalledStepEnd) -> Option<Stand>
+    ensures { result ≡ next_of end }
+{
+    match end {
+        CalledStepEnd::GoesTo => Some(Stand::Row),
+        CalledStepEnd::Calls => Some(Stand::Contract),
+        CalledStepEnd::Halts(_) => None,
+        CalledStepEnd::Leaves => None,
+        CalledStepEnd::Breaks { .. } => None,
+        CalledStepEnd::NoCall => None,
+    }
+}
+
+/// What a run comes to with a step at an address, after which it does not go on.
+fn last(calls: &[CallState], at: u32, step: u64, called: bool, end: CalledStepEnd) -> CalledRun
+    requires { next_of end ≡ None }
+    ensures called { result.called ≡ called }
+    ensures ending { IsLast end at step (block_after (map written_call_of calls.now) step) result.ending }
+{
+    match end {
+        CalledStepEnd::Halts(event) => ended(
+            calls,
+            step,
+            called,
+            CalledEnding::Failed { event, at, step },
+        ),
+        CalledStepEnd::Leaves => ended(calls, step, called, CalledEnding::Exit { at, step }),
+        CalledStepEnd::Breaks { line } => CalledRun {
+            called,
+            ending: CalledEnding::NotGiven { line, at, step },
+        },
+        CalledStepEnd::NoCall => CalledRun {
+            called,
+            ending: CalledEnding::NoCall { step },
+        },
+        CalledStepEnd::GoesTo => unreachable!(),
+        CalledStepEnd::Calls => unreachable!(),
+    }
+}
+
+/// A contract step was made before, or is made here.
+fn calls_here(called: bool, stand: Stand) -> bool
+    ensures { result ≡ (called || is_contract stand) }
+{
+    if called {
+        return true;
+    }
+    stand == Stand::Contract
+}
+
+/// What the run of a frame from an entry state comes to within its limits, with the blocks of contract steps. The error is want of memory.
+fn follow<M: Machine>(
+    alloc: Global,
+    frame: &CallFrame,
+    entry: &M::State,
+    mut state: M::State,
+    choices: &[(u64, u8)],
+    calls: &[CallState],
+    limits: Limits,
+) -> Result<CalledRun, AllocError>
+    requires frame { IsRunnable M.machine M.State.has_register frame.now }
+    requires lawful { HasLawfulRows (program_of M.machine frame.now.program) }
+    requires own { IsOwnAt M.machine.endian frame.now.own (M.State.view entry.now) }
+    requires kept { HasKept (program_of M.machine frame.now.program) (M.State.view entry.now) }
+    requires rising { AreRising choices.now }
+    requires blocks { All (λ c. IsBlock M.form (written_call_of c)) calls.now }
+    requires calls { AllPairs (λ x y. x.step < y.step) calls.now }
+    requires some { 1 ≤ limits.steps }
+    requires same { M.State.view state ≡ M.State.view entry.now }
+    ensures { (registers : ℕ → List ℕ) → AreChanged registers (frame_in M.machine frame.now).stepped → IfOk result (λ run.
+        IsRun (frame_in M.machine frame.now) limits.turns
+        (called_start (M.State.view entry.now) choices.now registers (map written_call_of calls.now)) (map written_call_of calls.now) (limits.steps - 1) run) }
+{
+    let mut stack = Vec::new(alloc);
+    let mut stand = Stand::Row;
+    let mut called = false;
+    let mut turns = 0u64;
+    let mut n = 0u64;
+    loop {
+        let at = state.pc();
+        let choice = choice_at(choices, n);
+        let block = block_at(calls, n);
+        called = calls_here(called, stand);
+        let end = turn::<M>(
+            alloc, frame, entry, &mut state, &mut stack, stand, choice, block,
+        )?;
+        stand = match next_stand(end) {
+            None => return Ok(last(calls, at, n, called, end)),
+            Some(next) => next,
+        };
+        turns = match next_turns(at, state.pc(), turns, limits.turns) {
+            None => return Ok(ended(calls, n, called, CalledEnding::Turned { at, step: n })),
+            Some(more) => more,
+        };
+        if n + 1 == limits.steps {
+            return Ok(ended(calls, n, called, CalledEnding::Left { at, step: n }));
+        }
+        n += 1;
+    }
+}
+
+/// The state of a start of a frame: its registers and flags, at the address where the frame's function begins, and in memory the file's byte where it is kept
+/// or, in the frame of the function, fixed; else the start's, else 0. It takes memory for that state.
+///
+/// # Errors
+///
+/// Want of memory.
+pub fn called_state<M: Machine>(
+    alloc: Global,
+    frame: &RankedFrame,
+    start: &Start,
+) -> Result<M::State, AllocError>
+    requires rank { frame.now.rank ≤ length frame.now.contracts.now }
+    requires start { IsWritten M.form (is_known_at (frame_of_rank M.machine frame.now).program) (written_of start.now) }
+    ensures { (calls : List WrittenCall) → IfOk result (λ s. M.State.view s ≡ (start_called M.machine M.form frame.now (written_of start.now) calls).state) }
+{
+    if frame.rank == frame.contracts.len() {
+        let state = start_state::<M>(alloc, frame.image, frame.notes, frame.entry, start)?;
+        return Ok(state);
+    }
+    let memory = memory_given(alloc, frame.image, &[], &start.bytes)?;
+    Ok(M::make(start, frame.contracts[frame.rank].at, memory))
+}
+
+/// The bytes that the contract of a rank may write, if there is one, for a frame that begins in a state. The error is want of memory.
+fn own_spans<V: View>(
+    alloc: Global,
+    contracts: &[Contract],
+    rank: usize,
+    state: &V,
+    big: bool,
+) -> Result<Vec<Span>, AllocError>
+    requires { All (λ x. IsReadableContract V.has_register (contract_of x)) contracts.now }
+    ensures { (x : Contract) → slice_get contracts.now rank ≡ Some x → IfOk result (λ spans.
+        bytes_of spans.items ≡ written (memory.endian big) (contract_of x).writes (V.view state.now)) }
+{
+    if rank >= contracts.len() {
+        return Ok(Vec::new(alloc));
+    }
+    let spans = writable(alloc, &contracts[rank].writes, state, big)?;
+    Ok(spans)
+}
+
+/// The contract of a rank, if there is one, with the bytes that it may write.
+fn own<'a>(contracts: &'a [Contract], rank: usize, spans: &'a [Span]) -> Option<Own<'a>>
+    ensures own { own_of result ≡ slice_get (map contract_of contracts.now) rank }
+    ensures parts { IfSome result (λ o. (slice_get contracts.now rank ≡ Some o.contract.now) × (o.spans.now ≡ spans.now)) }
+{
+    if rank >= contracts.len() {
+        return None;
+    }
+    Some(Own {
+        contract: &contracts[rank],
+        spans,
+    })
+}
+
+/// What the run of a frame from a state comes to within its limits. The error is want of memory.
+fn run_ranked<M: Machine>(
+    alloc: Global,
+    frame: &RankedFrame,
+    state: M::State,
+    choices: &[(u64, u8)],
+    calls: &[CallState],
+    limits: Limits,
+) -> Result<CalledRun, AllocError>
+    requires order { order_of frame.now.image.now ≡ M.machine.endian }
+    requires readable { AreReadable M.State.has_register (notes_of frame.now.notes.now) }
+    requires contracts { All (λ x. IsReadableContract M.State.has_register (contract_of x)) frame.now.contracts.now }
+    requires rank { frame.now.rank ≤ length frame.now.contracts.now }
+    requires kept { HasKept (whole_in M.machine frame.now).program (M.State.view state) }
+    requires rising { AreRising choices.now }
+    requires blocks { All (λ c. IsBlock M.form (written_call_of c)) calls.now }
+    requires calls { AllPairs (λ x y. x.step < y.step) calls.now }
+    requires some { 1 ≤ limits.steps }
+    ensures { (registers : ℕ → List ℕ) → AreChanged registers (map contract_of (take frame.now.rank frame.now.contracts.now)) → IfOk result (λ run.
+        IsRun (called_frame (whole_in M.machine frame.now).program (map contract_of (take frame.now.rank frame.now.contracts.now))
+        (slice_get (map contract_of frame.now.contracts.now) frame.now.rank)) limits.turns
+        (called_start (M.State.view state) choices.now registers (map written_call_of calls.now)) (map written_call_of calls.now) (limits.steps - 1) run) }
+{
+    frame.image.bytes();
+    let big = frame.image.is_big_machine();
+    let index = index_of(alloc, frame.notes)?;
+    let entry = M::copy(alloc, &state)?;
+    let spans = own_spans(alloc, frame.contracts, frame.rank, &entry, big)?;
+    let called = CallFrame {
+        program: Program {
+            image: frame.image,
+            notes: frame.notes,
+            big,
+            function: frame.entry,
+        },
+        index: &index,
+        stepped: &frame.contracts[..frame.rank],
+        own: own(frame.contracts, frame.rank, &spans),
+    };
+    let run = follow::<M>(alloc, &called, &entry, state, choices, calls, limits)?;
+    Ok(run)
+}
+
+/// What the run of a frame from a start comes to, within `limit` steps, and within `k` backward transfers or, for none, any number of them. The start has the
+/// registers and flags of the machine's form, bytes that are not 0 at rising addresses (in the frame of the function, of those whose byte the file does not
+/// give, in that of a contract, of those that are not kept), and choices for rising steps. `calls` are what contract steps are given, for rising steps. It
+/// takes memory for two states and, at a contract step, for one more, for an index of the notes, and for the calls that have not returned; its time beside that
+/// is for each step what its row costs, and for each contract step what its bytes and its contract's lines cost.
+///
+/// # Errors
+///
+/// Want of memory.
+pub fn run_called<M: Machine>(
+    alloc: Global,
+    frame: &RankedFrame,
+    start: &Start,
+    calls: &[CallState],
+    k: Option<u64>,
+    limit: u64,
+) -> Result<CalledRun, AllocError>
+    requires order { order_of frame.now.image.now ≡ M.machine.endian }
+    requires readable { AreReadable M.machine.has_register (notes_of frame.now.notes.now) }
+    requires contracts { All (λ x. IsReadableContract M.machine.has_register (contract_of x)) frame.now.contracts.now }
+    requires rank { frame.now.rank ≤ length frame.now.contracts.now }
+    requires start { IsWritten M.form (is_known_at (frame_of_rank M.machine frame.now).program) (written_of start.now) }
+    requires blocks { All (λ c. IsWrittenCall (whole_in M.machine frame.now) M.form (written_call_of c)) calls.now }
+    requires calls { AllPairs (λ x y. x.step < y.step) calls.now }
+    requires some { 1 ≤ limit }
+    ensures cause { IfOk result (λ run. cause_of run.ending ≡ cause_within (frame_of_rank M.machine frame.now) (reports.turns_within (limit - 1) k)
+        (start_called M.machine M.form frame.now (written_of start.now) (map written_call_of calls.now)) (map written_call_of calls.now) (limit - 1)) }
+    ensures found { IfOk result (λ run. IsFoundAs run.ending (found (frame_of_rank M.machine frame.now) k
+        (start_called M.machine M.form frame.now (written_of start.now) (map written_call_of calls.now)) (limit - 1))) }
+    ensures called { IfOk result (λ run. cause_of run.ending ≡ None → run.called ≡ has_called (frame_of_rank M.machine frame.now)
+        (reports.turns_within (limit - 1) k) (start_called M.machine M.form frame.now (written_of start.now) (map written_call_of calls.now)) limit) }
+{
+    let state = called_state::<M>(alloc, frame, start)?;
+    let limits = Limits {
+        turns: turns_within(k, limit),
+        steps: limit,
+    };
+    let run = run_ranked::<M>(alloc, frame, state, &start.choices, calls, limits)?;
+    Ok(run)
+}
