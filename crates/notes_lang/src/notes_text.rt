@@ -1,14 +1,15 @@
 //! The text of notes.
-ghost use Rattle.std.specs.Prelude.{◌≡◌, ◌&&◌, List, map, not, IfOk, IfErr, OnOk};
+ghost use Rattle.std.specs.Prelude.{◌≡◌, ◌&&◌, All, List, map, not, IfOk, IfErr, OnOk};
 ghost use Rattle.notes_spec.specs.Scopes as scopes;
 ghost use Rattle.notes_spec.specs.NotesGrammar as grammar;
 ghost use Rattle.notes_spec.specs.NotesGrammar.{IsNotesText};
 ghost use Rattle.notes_spec.specs.FrameNotes.{IsFrameText};
-ghost use Rattle.notes_value.specs.Reads.{AreOver, AreReadable};
+ghost use Rattle.notes_value.specs.Reads.{AreOver, AreReadable, IsReadableContract};
 ghost use Rattle.notes_lang.specs.Named.{vocabulary_of};
 ghost use Rattle.notes_lang.specs.Drafting.{IsDraft};
 ghost use Rattle.notes_value.specs.NoteViews.{notes_of};
-ghost use Rattle.notes_lang.specs.Framed.{frame_notes_of};
+ghost use Rattle.notes_value.specs.FrameViews.{contract_of};
+ghost use Rattle.notes_lang.specs.Framed.{IsContractOver, frame_notes_of};
 ghost use Rattle.notes_lang.specs.Judging.{IsNext};
 ghost use Rattle.notes_lang.specs.Saying.{consts_after, is_something, says_of};
 ghost use Rattle.notes_lang.specs.Scoping.{constant_of, scope_of};
@@ -151,7 +152,8 @@ fn read_lines(
 
 /// The notes that a text says, with its invariants and contracts, for the machine of a layout, in a dialect. `Fault` tells the first line that is refused, with
 /// the first of its faults; where each line is good but none names the function, it is the line behind the last. A text whose first line that says something is
-/// `notes 2` is of version 2. What the expressions of the notes read, the machine has; their numbers have 32 bits.
+/// `notes 2` is of version 2. What the expressions of the notes and of their contracts read, and what the contracts change, the machine has; the numbers of
+/// expressions have 32 bits, and a line of a contract writes 1 to 256 bytes.
 pub fn parse(
     alloc: Global,
     bytes: &[u8],
@@ -162,6 +164,8 @@ pub fn parse(
     ensures framed { IfOk result (λ n. IsFrameText (layout_vocabulary layout dialect) bytes.now (frame_notes_of n)) }
     ensures readable { IfOk result (λ n. AreReadable (layout_registers layout) (notes_of n.notes)) }
     ensures over { IfOk result (λ n. AreOver (layout_registers layout) (layout_flags layout) (notes_of n.notes)) }
+    ensures contracts { IfOk result (λ n. All (λ x. IsReadableContract (layout_registers layout) (contract_of x)) n.contracts.items) }
+    ensures changes { IfOk result (λ n. All (λ x. IsContractOver (layout_registers layout) (layout_flags layout) (contract_of x)) n.contracts.items) }
     ensures err { IfErr result (λ error. IsRefused (layout_vocabulary layout dialect) bytes.now error) }
 {
     let Ok(read) = read_lines(alloc, vocabulary(layout, dialect), bytes) else {
