@@ -1,5 +1,4 @@
 pub mod Judged
 pub mod Written
 pub mod Replayed
-pub mod Headless
 pub mod Returned

@@ -33,8 +33,8 @@ fn same_event(one: FramedEvent, other: FramedEvent) -> bool
     }
 }
 
-/// A named ending is an event of a segment, at a step.
-fn is_event(
+/// Whether a named ending is an event of a segment, at a step.
+pub fn is_event(
     named: FramedEnding,
     from_head: bool,
     found: FramedEvent,
@@ -54,8 +54,8 @@ fn is_event(
     }
 }
 
-/// A named ending is one backward transfer too many, at a step.
-fn is_turn(named: FramedEnding, found_at: u32, found_step: u64) -> bool
+/// Whether a named ending is one backward transfer too many, at a step.
+pub fn is_turn(named: FramedEnding, found_at: u32, found_step: u64) -> bool
     ensures { result ≡ is_turn (framed_ending_of named) found_at found_step }
 {
     match named {

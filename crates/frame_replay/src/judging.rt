@@ -61,7 +61,7 @@ fn is_head(asserts: &[Assert], invariants: &[u32], at: u32) -> bool
 }
 
 /// The number of the first line of a byte that is kept, for bytes on lines that follow each other from a number on.
-fn kept_line(image: &Image, bytes: &[(u32, u8)], first: u64) -> Option<u64>
+pub fn kept_line(image: &Image, bytes: &[(u32, u8)], first: u64) -> Option<u64>
     requires { first < 2 ^ 63 }
     ensures { (told : FramedTold) → MatchOption result (known_but (is_kept_in image.now) first bytes.now told ≡ told)
         (λ n. known_but (is_kept_in image.now) first bytes.now told ≡ FramedRefused n (OfPart StateByteFault)) }

@@ -18,9 +18,9 @@ use std::alloc::{AllocError, Global};
 
 /// A line that is refused, counted from 1, with its least fault.
 #[derive(Clone, Copy)]
-pub(crate) struct Refusal {
-    pub(crate) line: u64,
-    pub(crate) kind: FrameFault,
+pub struct Refusal {
+    pub line: u64,
+    pub kind: FrameFault,
 }
 
 /// What a text says: a segment, or nothing, refused at its first refused line.

@@ -32,7 +32,7 @@ use std::alloc::{AllocError, Global};
 use table_run::{EntryFault, head_ok, head_state, lines_ok, run_frame, start_state};
 
 /// The bound on backward transfers that an ending names.
-fn bound(named: FramedEnding) -> Option<u64>
+pub fn bound(named: FramedEnding) -> Option<u64>
     ensures { result ≡ bound_of (framed_ending_of named) }
 {
     match named {
@@ -42,7 +42,7 @@ fn bound(named: FramedEnding) -> Option<u64>
 }
 
 /// The number of the step of an ending.
-fn step_of(named: FramedEnding) -> u64
+pub fn step_of(named: FramedEnding) -> u64
     ensures { result ≡ step_of (framed_ending_of named) }
 {
     match named {

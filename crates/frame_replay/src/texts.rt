@@ -24,7 +24,11 @@ use std::alloc::{AllocError, Global};
 use table_run::FrameEnding;
 
 /// The refusal with a number between two texts.
-fn numbered(alloc: Global, before: &[u8], n: u64, behind: &[u8]) -> Result<Replay, AllocError>
+///
+/// # Errors
+///
+/// Want of memory.
+pub fn numbered(alloc: Global, before: &[u8], n: u64, behind: &[u8]) -> Result<Replay, AllocError>
     ensures { IfOk result (λ r. plain_answer r.status r.text.items ≡ plain_answer 9 (before.now ++ (number_text n ++ behind.now))) }
 {
     let mut out = Vec::new(alloc);
@@ -38,7 +42,11 @@ fn numbered(alloc: Global, before: &[u8], n: u64, behind: &[u8]) -> Result<Repla
 }
 
 /// The answer to a text that is refused at a line.
-pub(crate) fn refused(alloc: Global, refusal: Refusal) -> Result<Replay, AllocError>
+///
+/// # Errors
+///
+/// Want of memory.
+pub fn refused(alloc: Global, refusal: Refusal) -> Result<Replay, AllocError>
     ensures { (w : Whole) (layout : Layout) → IfOk result (λ r. plain_answer r.status r.text.items ≡ told_answer w layout (refusal_of refusal)) }
 {
     match refusal.kind {
@@ -71,7 +79,7 @@ fn replayed(alloc: Global, named: FramedEnding) -> Result<Replay, AllocError>
 }
 
 /// How many backward transfers the segment of a named ending is allowed: those of its bound, and without one more than there are steps.
-fn turns_within(named: FramedEnding) -> u64
+pub fn turns_within(named: FramedEnding) -> u64
     requires { step_of (framed_ending_of named) ≤ last_step }
     ensures { result ≡ reports.turns_within (step_of (framed_ending_of named)) (bound_of (framed_ending_of named)) }
 {
@@ -116,8 +124,8 @@ fn push_found(
     }
 }
 
-/// Appends a text, and an address with the number of a step.
-fn push_place(
+/// Appends a text, and an address with the number of a step. What an `Err` leaves is open.
+pub fn push_place(
     alloc: Global,
     out: &mut Vec<u8>,
     before: &[u8],

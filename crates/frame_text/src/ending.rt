@@ -81,8 +81,8 @@ fn with_place(
     Some((event, place))
 }
 
-/// The event that words name, and its place.
-fn event_at(any: bool, words: &[&[u8]]) -> Option<(FramedEvent, (u32, u64))>
+/// The event that words name, and its place; where not any event is sought, one that only frames have.
+pub fn event_at(any: bool, words: &[&[u8]]) -> Option<(FramedEvent, (u32, u64))>
     ensures { option_map event_said result ≡ event_at any (map (λ word. word.now) words.now) }
 {
     match words {
@@ -167,7 +167,11 @@ fn of_tables(named: NamedEnding) -> FramedEnding
 }
 
 /// The ending that a first line says.
-pub(crate) fn framed_ending(
+///
+/// # Errors
+///
+/// Where memory runs out.
+pub fn framed_ending(
     alloc: Global,
     layout: Layout,
     text: &[u8],

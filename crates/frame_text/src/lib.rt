@@ -8,7 +8,9 @@ mod printer;
 mod reader;
 mod text;
 
+pub use ending::{event_at, framed_ending};
 pub use fault::{FrameFault, FramedFault, Seen, SeenHead};
-pub use printer::{print_framed, push_framed_ending};
-pub use reader::parse_framed;
+pub use parts::{Mark, mark_of};
+pub use printer::{print_framed, push_event_at, push_framed_ending, push_parts};
+pub use reader::{parse_framed, read_parts};
 pub use text::{FramedEnding, FramedEvent, FramedText};

@@ -13,7 +13,7 @@ use std::alloc::{AllocError, Global};
 
 /// A line of a head part's beginning.
 #[derive(Clone, Copy)]
-pub(crate) enum Mark {
+pub enum Mark {
     /// The address of a head.
     Head(u32),
     /// A return address on the stack.
@@ -48,7 +48,11 @@ fn mark_in(words: &[&[u8]]) -> Option<Mark>
 }
 
 /// What a line says of a head part's beginning.
-fn mark_of(alloc: Global, layout: Layout, text: &[u8]) -> Result<Option<Mark>, AllocError>
+///
+/// # Errors
+///
+/// Where memory runs out.
+pub fn mark_of(alloc: Global, layout: Layout, text: &[u8]) -> Result<Option<Mark>, AllocError>
     ensures { IfOk result (λ m. option_map mark_said m ≡ mark_of (layout_of layout) text.now) }
 {
     let words = first_words(alloc, text)?;

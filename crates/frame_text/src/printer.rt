@@ -40,8 +40,8 @@ fn push_framed_event(alloc: Global, out: &mut Vec<u8>, event: FramedEvent) -> Re
     }
 }
 
-/// Appends first words, with their blank, an event and its place.
-fn push_event_at(
+/// Appends first words, with their blank, an event and its place. What an `Err` leaves is open.
+pub fn push_event_at(
     alloc: Global,
     out: &mut Vec<u8>,
     first: &[u8],
@@ -159,21 +159,22 @@ fn push_head(
     Ok(())
 }
 
-/// Appends the lines behind the first.
-fn push_parts(
+/// Appends the lines behind the first: of a start and, where the segment begins in one, of a head state. What an `Err` leaves is open.
+pub fn push_parts(
     alloc: Global,
     out: &mut Vec<u8>,
-    text: &FramedText,
+    start: &Start,
+    head: &Option<HeadStart>,
     layout: Layout,
 ) -> Result<(), AllocError>
     ensures { OnOk result (out.new.items ≡ out.old.items
-        ++ lines (lines_of_parts (layout_of layout) (written_of text.now.start) (option_map written_head_of text.now.head))) }
+        ++ lines (lines_of_parts (layout_of layout) (written_of start.now) (option_map written_head_of head.now))) }
 {
-    match &text.head {
-        None => push_block(alloc, out, &text.start, layout),
+    match head {
+        None => push_block(alloc, out, start, layout),
         Some(head) => {
             push_machine(out, layout)?;
-            push_content(alloc, out, &text.start, layout)?;
+            push_content(alloc, out, start, layout)?;
             push_head(alloc, out, head, layout)?;
             Ok(())
         }
@@ -192,6 +193,6 @@ pub fn print_framed(alloc: Global, text: &FramedText, layout: Layout) -> Result<
     let mut out = Vec::new(alloc);
     push_framed_ending(alloc, &mut out, text.named)?;
     push_text(&mut out, b"\n")?;
-    push_parts(alloc, &mut out, text, layout)?;
+    push_parts(alloc, &mut out, &text.start, &text.head, layout)?;
     Ok(out)
 }

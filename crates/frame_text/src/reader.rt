@@ -269,8 +269,12 @@ fn read_plain(
     }
 }
 
-/// The text of the lines behind the first.
-fn read_parts(
+/// What lines say after a first line that names this ending, as [`parse_framed`] reads them.
+///
+/// # Errors
+///
+/// As those of [`parse_framed`], where the first of these lines has the number 2.
+pub fn read_parts(
     alloc: Global,
     layout: Layout,
     named: FramedEnding,

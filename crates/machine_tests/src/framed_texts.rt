@@ -3,14 +3,14 @@ use frame_text::{FramedEnding, FramedEvent, FramedFault, parse_framed, print_fra
 use start_value::{Layout, Profile};
 use std::alloc::{AllocError, Global};
 
-const ARM: Layout = Layout::Arm {
+pub(crate) const ARM: Layout = Layout::Arm {
     big: true,
     profile: Profile::V4,
 };
 
 const FIRST: &str = "not inductive invariant 4 at 0x00010000 step 2";
 
-const ENTRY: &str = "state armv4-be
+pub(crate) const ENTRY: &str = "state armv4-be
 r0 0x00000000
 r1 0x00000000
 r2 0x00000000

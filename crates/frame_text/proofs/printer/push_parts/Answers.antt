@@ -16,7 +16,7 @@ use Rattle.frame_text.proofs.printer.push_parts.Goals as goal
 pub returns-in_ok-push_head-in-Some : goal.returns-in_ok-push_head-in-Some
 returns-in_ok-push_head-in-Some c =
     let layout : texts.Layout = layout_of c.args.layout in
-    let w : Written = written_of c.args.text.now.start in
+    let w : Written = written_of c.args.start.now in
     let h : WrittenHead = written_head_of c.in-Some.head in
     let front : List (List ℕ) = line_texts layout (content_lines layout w) in
     let behind : List (List ℕ) = head_line h.at ∷ map stack_line h.stack ++ line_texts layout (content_lines layout h.start ++ last_lines h.start) in
