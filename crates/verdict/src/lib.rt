@@ -5,7 +5,6 @@ mod certifying;
 mod deciding;
 mod early;
 mod measuring;
-mod rounds;
 mod scripting;
 mod shown;
 mod verdicts;
