@@ -60,9 +60,8 @@ module _ (file : List ℕ) (notes : Notes) (entry : ℕ) (m : Machine) (form : L
         bytes = bytes;
         runs = runs;
       };
-      ground = grounded p b.unroll form (unrolled_of u) un fitted laid (file_rows_lawful m file notes entry lawful small)
-          (record { word = λ s a. refl; little = lawful.little }) at bytes (let many = counted in omega (arith, many, most));
-      form = layout;
+      ground = grounded p b.unroll form (unrolled_of u) un fitted laid (file_rows_lawful m file notes entry lawful small) at bytes
+          (let many = counted in omega (arith, many, most));
       few = counted;
     }
 

@@ -60,7 +60,6 @@ module _ (a b : Program) (form other : Layout) (budget : Budget) (first : Unroll
       second_unrolled = record {
         measurable = lies.measurable;
         ground = lies.ground;
-        form = lies.form;
         few = let few = lies.few in omega (arith, few, left_is);
       }
 

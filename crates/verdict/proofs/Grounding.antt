@@ -37,7 +37,6 @@ use Rattle.unroller.specs.Lookups.{HasForm}
 use Rattle.bilv_spec.proofs.ProgramRows.{cell_small}
 use Rattle.unroller.proofs.FileRows.{file_rows_lawful}
 use Rattle.notes_value.specs.Reads.{IsOver, AreOver}
-use Rattle.verdict.proofs.Headless.{frame_askable}
 use Rattle.verdict.specs.Functions.{program_of_function}
 use Rattle.verdict.specs.Grounds.{IsGround}
 use Rattle.verdict.specs.Measures.{IsMeasurable, IsMeasured, IsUnrolledOf, IsWeighed}
@@ -84,11 +83,10 @@ range_length n (suc count) = ap suc (range_length (n + 1) count)
 
 -- its questions are those of the program
 pub grounded : (p : Program) (k : ℕ) (form : Layout) (u : UnrolledProgram) → IsUnrolling p k u → IsFitted p.machine form → IsLaidOut form u → HasLawfulRows p →
-    ReadsMemory p → p.entry < 2 ^ 32 →
+    p.entry < 2 ^ 32 →
     HasBytes u → length u.points ≤ last_step + 1 → IsGround p k form u
-grounded p k form u un fitted laid lawful reads entry bytes few = record {
+grounded p k form u un fitted laid lawful entry bytes few = record {
   lawful = lawful;
-  reads = reads;
   unrolling = un;
   fitting = record {
     entry = subst (λ (n : ℕ). n < 2 ^ 32) (sym un.entry) entry;
@@ -171,9 +169,8 @@ module _ (file : List ℕ) (notes : Notes) (entry : ℕ) (m : Machine) (form : L
         bytes = bytes;
         runs = runs;
       };
-      ground = grounded p b.unroll form (unrolled_of u) un fitted laid (file_rows_lawful m file notes entry lawful small)
-          (record { word = λ s a. refl; little = lawful.little }) at bytes (omega (arith, counted, most));
-      form = layout;
+      ground = grounded p b.unroll form (unrolled_of u) un fitted laid (file_rows_lawful m file notes entry lawful small) at bytes
+          (omega (arith, counted, most));
       few = counted;
     }
 
@@ -210,7 +207,6 @@ askable u q measurable of = record {
   bytes = subst (λ (z : Unrolled). HasBytes (unrolled_of z)) (sym of.of) measurable.bytes;
   runs = subst (λ (z : Unrolled). AreRuns z.known.items) (sym of.of) measurable.runs;
   tells = subst (λ (z : Unrolled). IsPassive (unrolled_of z) (passive_of q)) (sym of.of) of.tells;
-  frame = frame_askable u q measurable of;
 }
 
 -- what an unrolled program comes to by its price

@@ -1,6 +1,6 @@
 pub mod Answering
 pub mod Judging
-pub mod Headless
+pub mod RoundAnswers
 pub mod Endings
 pub mod Adding
 pub mod Grounding

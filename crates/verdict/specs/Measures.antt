@@ -10,7 +10,6 @@ use Rattle.question_form.specs.Forms.{IsFormed, AreRootsFormed}
 use Rattle.question_form.specs.FrameViews.{IsHeadless}
 use Rattle.question_form.specs.Views.{unrolled_of}
 use Rattle.question_form.specs.declared.unrolled.Unrolled.{Unrolled}
-use Rattle.start_value.specs.Starts.{layout_of}
 use Rattle.walk_spec.specs.Unrolling.{IsWalkable}
 use Rattle.verdict.specs.Grounds.{IsGround}
 use Rattle.verdict.specs.Rounds.{HasBytes, IsAskable}
@@ -28,11 +27,10 @@ pub record IsMeasurable (u : Unrolled) : Type 0 where
   pub bytes : HasBytes (unrolled_of u)
   pub runs : AreRuns u.known.items
 
--- it is that of a program, over the form of its states, with no more points than the budget
+-- it is that of a program, with no more points than the budget
 pub record IsUnrolledOf (p : Program) (layout : Layout) (b : Budget) (u : Unrolled) : Type 0 where
   pub measurable : IsMeasurable u
   pub ground : IsGround p b.unroll layout (unrolled_of u)
-  pub form : layout_of u.form ≡ layout
   pub few : length (unrolled_of u).points ≤ b.points
 
 -- The price of a program is above the budget, or the program is within the budgets.

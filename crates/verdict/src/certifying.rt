@@ -9,8 +9,7 @@ ghost use Rattle.machine_spec.specs.StateText.{Layout};
 ghost use Rattle.question_form.specs.Views.{kind_of};
 ghost use Rattle.notes_value.specs.NoteViews.{notes_of};
 ghost use Rattle.notes_value.specs.Reads.{AreOver};
-ghost use Rattle.walk_spec.specs.Unrolled.{UnrolledProgram};
-ghost use Rattle.verdict.specs.Grounds.{IsAnswered, IsGround};
+ghost use Rattle.verdict.specs.Grounds.{IsAnswered};
 ghost use Rattle.verdict.specs.Measures.{IsMeasurable, IsUnrolledOf};
 ghost use Rattle.verdict.specs.Verdicts.{IsCertificate, budget_of};
 
@@ -25,8 +24,8 @@ use std::alloc::{AllocError, Global};
 
 /// What the answer to a question of a program within the budgets certifies.
 fn certified(answered: Answered) -> Certified
-    ensures { (p : Program) (layout : Layout) (b : answers.Budget) (question : Question) (u : UnrolledProgram) → IsWithin p b →
-        IsGround p b.unroll layout u → IsAnswered p b.unroll layout question b.conflicts answered →
+    ensures { (p : Program) (layout : Layout) (b : answers.Budget) (question : Question) → IsWithin p b →
+        IsAnswered p b.unroll layout question b.conflicts answered →
         IsCertificate p b question result }
 {
     match answered {

@@ -80,10 +80,10 @@ fn ask_fails<M: Machine>(
     asked: Vec<u32>,
 ) -> Result<NoTurns, AllocError>
     requires whole { IsUnrolledOf (program_of_function M.machine function.now) M.form (budget_of budget.now) whole.now }
-    requires smaller { IsSmaller (program_of_function M.machine function.now) budget.now.unroll M.form passive.now.unrolled.now }
+    requires smaller { IsSmaller (program_of_function M.machine function.now) budget.now.unroll M.form (unrolled_of passive.now.unrolled.now) }
     requires askable { IsAskable passive.now }
     requires added { AreAdded (unrolled_of passive.now.unrolled.now) asked.items }
-    requires turn { AnswersOver passive.now.unrolled.now TurnQuestion asked.items budget.now.conflicts (Answered.Refuted turn) }
+    requires turn { AnswersOver (unrolled_of passive.now.unrolled.now) TurnQuestion asked.items budget.now.conflicts (Answered.Refuted turn) }
     ensures { IfOk result (AreNoTurns (program_of_function M.machine function.now) budget.now.unroll M.form) }
 {
     let Decided { answered, .. } = decide_from(
@@ -114,7 +114,7 @@ fn ask_turns<M: Machine>(
     passive: &Passive,
 ) -> Result<NoTurns, AllocError>
     requires whole { IsUnrolledOf (program_of_function M.machine function.now) M.form (budget_of budget.now) whole.now }
-    requires smaller { IsSmaller (program_of_function M.machine function.now) budget.now.unroll M.form passive.now.unrolled.now }
+    requires smaller { IsSmaller (program_of_function M.machine function.now) budget.now.unroll M.form (unrolled_of passive.now.unrolled.now) }
     requires askable { IsAskable passive.now }
     ensures { IfOk result (AreNoTurns (program_of_function M.machine function.now) budget.now.unroll M.form) }
 {
@@ -148,7 +148,7 @@ fn ask_entry<M: Machine>(
 ) -> Result<Early, AllocError>
     requires within { IsWithin (program_of_function M.machine function.now) (budget_of budget.now) }
     requires whole { IsUnrolledOf (program_of_function M.machine function.now) M.form (budget_of budget.now) whole.now }
-    requires smaller { IsSmaller (program_of_function M.machine function.now) budget.now.unroll M.form passive.now.unrolled.now }
+    requires smaller { IsSmaller (program_of_function M.machine function.now) budget.now.unroll M.form (unrolled_of passive.now.unrolled.now) }
     requires askable { IsAskable passive.now }
     requires fail { Refutes (program_of_function M.machine function.now) budget.now.unroll FailQuestion (proof_of fail) }
     requires turn { Refutes (program_of_function M.machine function.now) budget.now.unroll TurnQuestion (proof_of turn) }
@@ -177,7 +177,7 @@ fn judge_passive<M: Machine>(
     requires readable { AreReadable M.machine.has_register (notes_of function.now.notes.now) }
     requires within { IsWithin (program_of_function M.machine function.now) (budget_of budget.now) }
     requires whole { IsUnrolledOf (program_of_function M.machine function.now) M.form (budget_of budget.now) whole.now }
-    requires smaller { IsSmaller (program_of_function M.machine function.now) budget.now.unroll M.form passive.now.unrolled.now }
+    requires smaller { IsSmaller (program_of_function M.machine function.now) budget.now.unroll M.form (unrolled_of passive.now.unrolled.now) }
     requires askable { IsAskable passive.now }
     ensures { IfOk result (IsEarly (program_of_function M.machine function.now) M.form budget.now) }
 {
@@ -208,7 +208,7 @@ fn judge_smaller<M: Machine>(
     requires within { IsWithin (program_of_function M.machine function.now) (budget_of budget.now) }
     requires whole { IsUnrolledOf (program_of_function M.machine function.now) M.form (budget_of budget.now) whole.now }
     requires measurable { IsMeasurable unrolled.now }
-    requires smaller { IsSmaller (program_of_function M.machine function.now) budget.now.unroll M.form unrolled.now }
+    requires smaller { IsSmaller (program_of_function M.machine function.now) budget.now.unroll M.form (unrolled_of unrolled.now) }
     ensures { IfOk result (IsEarly (program_of_function M.machine function.now) M.form budget.now) }
 {
     let passive = passive(alloc, unrolled)?;

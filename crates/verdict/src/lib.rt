@@ -5,6 +5,7 @@ mod certifying;
 mod deciding;
 mod early;
 mod measuring;
+mod rounds;
 mod scripting;
 mod shown;
 mod verdicts;

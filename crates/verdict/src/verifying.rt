@@ -3,7 +3,6 @@ ghost use Rattle.std.specs.Prelude.{◌≡◌, IfOk};
 ghost use Rattle.bilv_spec.specs.Files.{order_of, program_of};
 ghost use Rattle.bilv_spec.specs.Answers.{IsWithin};
 ghost use Rattle.question_form.specs.Views.{unrolled_of};
-ghost use Rattle.start_value.specs.Starts.{layout_of};
 ghost use Rattle.notes_value.specs.NoteViews.{notes_of};
 ghost use Rattle.notes_value.specs.Reads.{AreOver, AreReadable};
 ghost use Rattle.verdict.specs.Functions.{program_of_function};
@@ -38,7 +37,6 @@ fn judge<M: Machine>(
     requires readable { AreReadable M.machine.has_register (notes_of function.now.notes.now) }
     requires within { IsWithin (program_of_function M.machine function.now) (budget_of budget.now) }
     requires ground { IsGround (program_of_function M.machine function.now) budget.now.unroll M.form (unrolled_of passive.now.unrolled.now) }
-    requires form { layout_of passive.now.unrolled.now.form ≡ M.form }
     requires askable { IsAskable passive.now }
     ensures { IfOk result (λ v. IsVerdict (program_of_function M.machine function.now) M.form budget.now v) }
 {

@@ -1,6 +1,3 @@
-use Rattle.std.proofs.Common.{ap, ◌∙◌}
-use Rattle.question_form.specs.declared.unrolled.Unrolled.{Unrolled}
-use Rattle.start_value.specs.Starts.{layout_of}
 use Rattle.question_form.specs.Views.{kind_of}
 use Rattle.verdict.specs.Verdicts.{budget_of}
 use Rattle.verdict.proofs.Grounding.{came_above, came_within}
@@ -15,7 +12,7 @@ decide-requires-clause-askable c =
 
 pub returns-in_ok-answered-in-Within : goal.returns-in_ok-answered-in-Within
 returns-in_ok-answered-in-Within c p layout h =
-    let came = came_within (budget_of c.args.budget.now) c.args.unrolled.now c.in_ok-price.field-0 c.in_ok-price.ensures c.in-Within.passive c.in-Within.is in
-    let ready = came.1 p layout h in
-    c.certified.ensures p layout (budget_of c.args.budget.now) (kind_of c.args.kind) _ ready.0 ready.1
-    (c.in_ok-answered-in-Within.ensures p c.args.budget.now.unroll layout ready.1 (ap (λ (u : Unrolled). layout_of u.form) came.2 ∙ h.form))
+    let ready = (came_within (budget_of c.args.budget.now) c.args.unrolled.now c.in_ok-price.field-0 c.in_ok-price.ensures c.in-Within.passive c.in-Within.is).1
+    p layout h in
+    c.certified.ensures p layout (budget_of c.args.budget.now) (kind_of c.args.kind) ready.0
+    (c.in_ok-answered-in-Within.ensures p c.args.budget.now.unroll layout ready.1)

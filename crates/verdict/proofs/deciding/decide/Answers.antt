@@ -8,5 +8,5 @@ decide_from-requires-clause-first c = added_none (unrolled_of c.args.passive.now
 
 pub returns : goal.returns
 returns c =
-    of_decided c.args.passive.now.unrolled.now (kind_of c.args.kind) c.args.conflicts c.new-none.result.items c.in_ok-decided.decided
+    of_decided (unrolled_of c.args.passive.now.unrolled.now) (kind_of c.args.kind) c.args.conflicts c.new-none.result.items c.in_ok-decided.decided
     c.in_ok-decided.ensures

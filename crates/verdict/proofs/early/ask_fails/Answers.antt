@@ -1,5 +1,7 @@
+use Rattle.question_form.specs.Views.{unrolled_of}
 use Rattle.verdict.specs.Functions.{program_of_function}
 use Rattle.verdict.proofs.EarlyVerdicts.{early_fails, early_refuted, few_points}
+use Rattle.verdict.proofs.Grounding.{function_is_read}
 use Rattle.verdict.proofs.early.ask_fails.Goals as goal
 
 pub free_inputs-inputs-requires : goal.free_inputs-inputs-requires
@@ -9,13 +11,13 @@ free_inputs-inputs-requires g c =
 
 pub returns-in-Refuted : goal.returns-in-Refuted
 returns-in-Refuted g c =
-    early_refuted (program_of_function g.M.Machine.machine c.args.function.now) g.M.Machine.form c.args.budget.now c.args.passive.now.unrolled.now
+    early_refuted (program_of_function g.M.Machine.machine c.args.function.now) g.M.Machine.form c.args.budget.now (unrolled_of c.args.passive.now.unrolled.now)
     c.requires.smaller c.args.whole.now c.requires.whole c.free_inputs-inputs.result c.free_inputs-inputs.ensures c.args.asked.items _ c.args.turn
     c.in-Refuted.fail c.over_variables-turn.result c.over_variables-fail.result c.requires.turn c.in_ok-answered.ensures c.in-Refuted.is
     c.over_variables-turn.ensures c.over_variables-fail.ensures
 
 pub returns-in-Sat : goal.returns-in-Sat
 returns-in-Sat g c =
-    early_fails (program_of_function g.M.Machine.machine c.args.function.now) g.M.Machine.form c.args.budget.now c.args.passive.now.unrolled.now
-    c.requires.smaller c.args.asked.items _ c.in-Sat.start
+    early_fails (program_of_function g.M.Machine.machine c.args.function.now) g.M.Machine.form c.args.budget.now (unrolled_of c.args.passive.now.unrolled.now)
+    c.requires.smaller (function_is_read g.M.Machine.machine c.args.function.now g.met.M.Machine.lawful) c.args.asked.items _ c.in-Sat.start
     c.in_ok-answered.ensures c.in-Sat.is

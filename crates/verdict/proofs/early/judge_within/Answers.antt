@@ -6,9 +6,4 @@ pub judge_smaller-requires-clause-smaller : goal.judge_smaller-requires-clause-s
 judge_smaller-requires-clause-smaller g c =
     let same = ap (λ (b : Budget). b.unroll) c.with_unroll-smaller.ensures in
     let few = c.requires.turns in
-    record {
-      turns = c.with_unroll-smaller.result.unroll;
-      few = omega (arith, same, few);
-      ground = c.in-Ok.ensures.unrolled.ground;
-      form = c.in-Ok.ensures.unrolled.form;
-    }
+    record { turns = c.with_unroll-smaller.result.unroll; few = omega (arith, same, few); ground = c.in-Ok.ensures.unrolled.ground }

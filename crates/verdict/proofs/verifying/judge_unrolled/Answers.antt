@@ -1,6 +1,3 @@
-use Rattle.std.proofs.Common.{ap, ◌∙◌}
-use Rattle.question_form.specs.declared.unrolled.Unrolled.{Unrolled}
-use Rattle.start_value.specs.Starts.{layout_of}
 use Rattle.verdict.specs.Functions.{program_of_function}
 use Rattle.verdict.specs.Verdicts.{budget_of}
 use Rattle.verdict.proofs.Grounding.{askable, weighed_above, weighed_within}
@@ -23,6 +20,3 @@ judge-requires-clause-within g c =
 
 pub judge-requires-clause-askable : goal.judge-requires-clause-askable
 judge-requires-clause-askable g c = askable c.args.unrolled.now c.in_ok-passive.passive c.requires.unrolled.measurable c.in_ok-passive.ensures
-
-pub judge-requires-clause-form : goal.judge-requires-clause-form
-judge-requires-clause-form g c = ap (λ (u : Unrolled). layout_of u.form) c.in_ok-passive.ensures.of ∙ c.requires.unrolled.form
