@@ -7,7 +7,7 @@ use Rattle.std.proofs.lemmas.Map.Views.{Contains-from_any}
 use Rattle.word_spec.specs.Words.{add}
 use Rattle.bilv_spec.specs.Run.{Program}
 use Rattle.bilv_spec.specs.PointLaws.{ReadsMemory}
-use Rattle.bilv_spec.specs.Answers.{IsWithin}
+use Rattle.bilv_spec.specs.Answers.{IsWithin, start_in}
 use Rattle.bilv_spec.specs.Evidence.{Refutes}
 use Rattle.call_spec.specs.Calls.{EntryQuestion, FailQuestion, TurnQuestion, Question}
 use Rattle.machine_spec.specs.StateText.{Layout}
@@ -24,7 +24,7 @@ use Rattle.question_form.specs.declared.unrolled.Unrolled.{Unrolled}
 use Rattle.start_value.specs.Starts.{written_of}
 use Rattle.start_value.specs.declared.start.Start.{Start}
 use Rattle.verdict.specs.FewerTurns.{IsSmaller}
-use Rattle.verdict.specs.Grounds.{Answers, AnswersOver, IsAnsweredOver, IsFailing, IsGround}
+use Rattle.verdict.specs.Grounds.{Answers, AnswersOver, IsAnsweredOver, IsGround, IsShownBy}
 use Rattle.verdict.specs.Measures.{IsUnrolledOf}
 use Rattle.verdict.specs.Rounds.{IsDecided}
 use Rattle.verdict.specs.Verdicts.{IsVerdict, budget_of}
@@ -35,9 +35,8 @@ use Rattle.call_form.specs.declared.budget.Budget.{Budget}
 use Rattle.verdict.specs.declared.verdicts.Verdict.TheVariants.{Holds, Vacuous}
 use Rattle.verdict.proofs.Adding.{answered, of_decided}
 use Rattle.asked_bytes.proofs.Adding.{any_contained}
-use Rattle.verdict.proofs.Endings.{fails_by}
 use Rattle.verdict.proofs.Grounding.{count_points}
-use Rattle.verdict.proofs.Judging.{entry_state, holds, vacuous}
+use Rattle.verdict.proofs.Judging.{holds, vacuous}
 
 nat_same : (x y : ℕ) → nat_eq x y ≡ true → x ≡ y
 nat_same x y e = grind (arith, nat_tests)
@@ -58,8 +57,10 @@ asks_more few many literals keep a h =
 
 -- the answer over some bytes, in one of its forms
 over : (u : UnrolledProgram) (question : Question) (added : List ℕ) (conflicts : ℕ) (a c : Answered) → AnswersOver u question added conflicts a → a ≡ c →
-    (p : Program) (k : ℕ) (layout : Layout) → IsGround p k layout u → IsAnsweredOver p k layout question (is_asked added u.literals) conflicts c
-over u question added conflicts a c h e p k layout g = subst (IsAnsweredOver p k layout question (is_asked added u.literals) conflicts) e (h p k layout g)
+    (p : Program) (k : ℕ) (layout : Layout) → ReadsMemory p → IsGround p k layout u →
+    IsAnsweredOver p k layout question (is_asked added u.literals) conflicts c
+over u question added conflicts a c h e p k layout reads g =
+    subst (IsAnsweredOver p k layout question (is_asked added u.literals) conflicts) e (h p k layout reads g)
 
 -- a refutation is over what was asked
 pub refuted_asked : (u : UnrolledProgram) (question : Question) (conflicts : ℕ) (first : List ℕ) (d : Decided) (t : Proof) →
@@ -74,21 +75,20 @@ few_points p layout b whole w most = let few = w.few in let same = count_points 
 module _ (p : Program) (layout : Layout) (b : Budget) (u : UnrolledProgram) (small : IsSmaller p b.unroll layout u) where
   -- a start that fails within the smaller bound fails
   pub early_fails : ReadsMemory p → (first : List ℕ) (d : Decided) (s : Start) → IsDecided u FailQuestion b.conflicts first d → d.answered ≡ Sat s →
-      IsFailing p b.unroll layout s
+      IsShownBy p b.unroll layout FailQuestion s
   early_fails reads first d s h e =
-      let f = fails_by p small.ground.lawful reads layout small.turns b.conflicts s
-      (answered u FailQuestion b.conflicts d.answered (Sat s) (of_decided u FailQuestion b.conflicts first d h) e p small.turns layout small.ground) in
-      record { written = f.written; start = f.start; fails = fails_rise p small.turns b.unroll small.few _ f.fails }
+      let f = answered u FailQuestion b.conflicts d.answered (Sat s) (of_decided u FailQuestion b.conflicts first d h) e p small.turns layout reads small.ground in
+      (f.0, (f.1.0, fails_rise p small.turns b.unroll small.few (start_in p layout (written_of s)) f.1.1))
 
   module _ (whole : Unrolled) (w : IsUnrolledOf p layout (budget_of b) whole) (inputs : ℕ) (is : inputs ≡ first_byte (unrolled_of whole)) where
     -- where no run makes more backward transfers, the refutations of both questions are those for the budget's bound
-    pub early_refuted : (asked : List ℕ) (fails : Decided) (t f t' f' : Proof) → AnswersOver u TurnQuestion asked b.conflicts (Refuted t) →
+    pub early_refuted : ReadsMemory p → (asked : List ℕ) (fails : Decided) (t f t' f' : Proof) → AnswersOver u TurnQuestion asked b.conflicts (Refuted t) →
         IsDecided u FailQuestion b.conflicts asked fails → fails.answered ≡ Refuted f →
         proof_of t' ≡ over_variables inputs (proof_of t) → proof_of f' ≡ over_variables inputs (proof_of f) →
         Refutes p b.unroll FailQuestion (proof_of f') × Refutes p b.unroll TurnQuestion (proof_of t')
-    early_refuted asked fails t f t' f' ht hf ef st sf =
-        let rt = ht p small.turns layout small.ground in
-        let rf = over u FailQuestion fails.asked.items b.conflicts fails.answered (Refuted f) hf.answers ef p small.turns layout small.ground in
+    early_refuted reads asked fails t f t' f' ht hf ef st sf =
+        let rt = ht p small.turns layout reads small.ground in
+        let rf = over u FailQuestion fails.asked.items b.conflicts fails.answered (Refuted f) hf.answers ef p small.turns layout reads small.ground in
         let both = both_rise p small.turns b.unroll small.few (proof_of t) (proof_of f) rt.refutes rf.refutes
         (λ a ask. ap (λ (z : ℕ → Bool). z a) rf.over ∙ asks_more asked fails.asked.items u.literals hf.keep a
         (ap (λ (z : ℕ → Bool). z a) (sym rt.over) ∙ ask))
@@ -102,7 +102,7 @@ module _ (p : Program) (layout : Layout) (b : Budget) (u : UnrolledProgram) (sma
         Answers u EntryQuestion b.conflicts a → a ≡ Refuted proof → proof_of proof' ≡ over_variables inputs (proof_of proof) →
         IsVerdict p layout b (Vacuous proof')
     early_vacuous reads within some a proof proof' h e same =
-        let r = answered u EntryQuestion b.conflicts a (Refuted proof) h e p small.turns layout small.ground in
+        let r = answered u EntryQuestion b.conflicts a (Refuted proof) h e p small.turns layout reads small.ground in
         vacuous p w.ground.lawful reads layout (budget_of b) within some (proof_of proof')
         (subst (Refutes p b.unroll EntryQuestion) (ap (λ z. over_variables z (proof_of proof)) (sym is) ∙ sym same)
         (rises p small.turns b.unroll small.few EntryQuestion (proof_of proof) r tt (unrolled_of whole) w.ground.unrolling w.ground.fitting))
@@ -112,6 +112,6 @@ module _ (p : Program) (layout : Layout) (b : Budget) (u : UnrolledProgram) (sma
       Answers u EntryQuestion b.conflicts a → a ≡ Sat s → Refutes p b.unroll FailQuestion (proof_of fail) → Refutes p b.unroll TurnQuestion (proof_of turn) →
       IsVerdict p layout b (Holds s fail turn)
   early_holds reads within some a s fail turn h e f t =
-      let r = answered u EntryQuestion b.conflicts a (Sat s) h e p small.turns layout small.ground in
-      holds p small.ground.lawful reads layout (budget_of b) within some (written_of s) r.0 (entry_state p layout small.turns (written_of s) EntryQuestion r.1)
+      let r = answered u EntryQuestion b.conflicts a (Sat s) h e p small.turns layout reads small.ground in
+      holds p small.ground.lawful reads layout (budget_of b) within some (written_of s) r.0 r.1
       (proof_of fail) (proof_of turn) f t

@@ -15,12 +15,11 @@ use Rattle.state_text.specs.declared.start.Event.{Event}
 use Rattle.table_run.specs.Endings.{found_of}
 use Rattle.table_run.specs.declared.ending.Ending.{Ending}
 use Rattle.table_run.specs.declared.ending.Ending.TheVariants as ending
-use Rattle.verdict.specs.Grounds.{IsAnswered, IsFailing}
+use Rattle.verdict.specs.Grounds.{IsShownBy}
 use Rattle.verdict.specs.Verdicts.{IsVerdict, budget_of}
 use Rattle.call_form.specs.declared.budget.Budget.{Budget}
-use Rattle.verdict.specs.declared.verdicts.Answered.TheVariants.{Sat}
 use Rattle.verdict.specs.declared.verdicts.Verdict.TheVariants.{Fails, Unroll}
-use Rattle.verdict.proofs.Judging.{starts, fails, no_other_event, no_other_turn, fails_report, turns_report}
+use Rattle.verdict.proofs.Judging.{no_other_event, no_other_turn, fails_report, turns_report}
 
 -- what is found as an event is an ending by one
 no_event : (e : Ending) → ((v : Event) (at step : ℕ) → e ≡ ending.Failed v at step → ⊥) → (r : RunEvent) (at n : ℕ) → found_of e ≡ FoundEvent r at n → ⊥
@@ -35,32 +34,23 @@ no_turn (ending.Failed v a s) none at n h = absurd (cc)
 no_turn (ending.Turned a s) none at n h = none a s refl
 no_turn (ending.Left a s) none at n h = absurd (cc)
 
--- a start that answers the fail question fails
-pub fails_by : (p : Program) → HasLawfulRows p → ReadsMemory p → (layout : Layout) (k conflicts : ℕ) (s : Start) →
-    IsAnswered p k layout FailQuestion conflicts (Sat s) → IsFailing p k layout s
-fails_by p lawful reads layout k conflicts s h = record {
-  written = h.0;
-  start = starts p layout k (written_of s) h.0 FailQuestion h.1;
-  fails = fails p layout k (written_of s) lawful reads h.1;
-}
-
 module _ (p : Program) (lawful : HasLawfulRows p) (reads : ReadsMemory p) (layout : Layout) (b : Budget) (within : IsWithin p (budget_of b)) (some : 1
     ≤ b.points) (s : Start) (e : Ending)
     (is : found_of e ≡ found p (Some b.unroll) (start_in p layout (written_of s)) (b.points - 1)) where
-  pub failing : IsFailing p b.unroll layout s → (v : Event) (at step : ℕ) → e ≡ ending.Failed v at step →
+  pub failing : IsShownBy p b.unroll layout FailQuestion s → (v : Event) (at step : ℕ) → e ≡ ending.Failed v at step →
       IsVerdict p layout b (Fails v at step s)
   failing h v at step same =
-      fails_report p lawful reads layout (budget_of b) within some (written_of s) h.written h.start h.fails (event_of v) at step (sym is ∙ ap found_of same)
+      fails_report p lawful reads layout (budget_of b) within some (written_of s) h.0 h.1.0 h.1.1 (event_of v) at step (sym is ∙ ap found_of same)
 
-  pub fails_somehow : IsFailing p b.unroll layout s → ((v : Event) (at step : ℕ) → e ≡ ending.Failed v at step → ⊥) → ⊥
+  pub fails_somehow : IsShownBy p b.unroll layout FailQuestion s → ((v : Event) (at step : ℕ) → e ≡ ending.Failed v at step → ⊥) → ⊥
   fails_somehow h none =
-      no_other_event p lawful reads layout (budget_of b) within some (written_of s) h.written h.start h.fails (found_of e) (sym is) (no_event e none)
+      no_other_event p lawful reads layout (budget_of b) within some (written_of s) h.0 h.1.0 h.1.1 (found_of e) (sym is) (no_event e none)
 
-  pub turning : (IsSatisfiable p b.unroll FailQuestion → ⊥) → IsAnswered p b.unroll layout TurnQuestion b.conflicts (Sat s) → (at step : ℕ) →
+  pub turning : (IsSatisfiable p b.unroll FailQuestion → ⊥) → IsShownBy p b.unroll layout TurnQuestion s → (at step : ℕ) →
       e ≡ ending.Turned at step →
       IsVerdict p layout b (Unroll at step s)
   turning never h at step same =
-      turns_report p lawful reads layout (budget_of b) within some (written_of s) h.0 never h.1 at step (sym is ∙ ap found_of same)
+      turns_report p lawful reads layout (budget_of b) within some (written_of s) h.0 never h.1.0 h.1.1 at step (sym is ∙ ap found_of same)
 
-  pub turns_somehow : IsAnswered p b.unroll layout TurnQuestion b.conflicts (Sat s) → ((at step : ℕ) → e ≡ ending.Turned at step → ⊥) → ⊥
-  turns_somehow h none = no_other_turn p lawful reads layout (budget_of b) within some (written_of s) h.0 h.1 (found_of e) (sym is) (no_turn e none)
+  pub turns_somehow : IsShownBy p b.unroll layout TurnQuestion s → ((at step : ℕ) → e ≡ ending.Turned at step → ⊥) → ⊥
+  turns_somehow h none = no_other_turn p lawful reads layout (budget_of b) within some (written_of s) h.0 h.1.0 h.1.1 (found_of e) (sym is) (no_turn e none)

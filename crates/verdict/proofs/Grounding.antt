@@ -37,10 +37,12 @@ use Rattle.unroller.specs.Lookups.{HasForm}
 use Rattle.bilv_spec.proofs.ProgramRows.{cell_small}
 use Rattle.unroller.proofs.FileRows.{file_rows_lawful}
 use Rattle.notes_value.specs.Reads.{IsOver, AreOver}
+use Rattle.walk_laws.proofs.InputPlaces.{range_length}
+use Rattle.verdict.proofs.Headless.{frame_askable}
 use Rattle.verdict.specs.Functions.{program_of_function}
 use Rattle.verdict.specs.Grounds.{IsGround}
 use Rattle.verdict.specs.Measures.{IsMeasurable, IsMeasured, IsUnrolledOf, IsWeighed}
-use Rattle.verdict.specs.Rounds.{HasBytes, IsAskable}
+use Rattle.verdict.specs.Rounds.{HasBytes, IsAskable, IsDecidable}
 use Rattle.verdict.specs.declared.measuring.Measured.{Measured}
 use Rattle.verdict.specs.declared.measuring.Weighed.{Weighed}
 use Rattle.verdict.specs.declared.measuring.Weighed.TheVariants as weighed
@@ -75,11 +77,6 @@ all_readable u regs flags n p q h = record {
   ensures = λ l has. readable u regs flags p q l.says (All-contains (λ (x : NoteLine). IsOver regs flags x.says) n.ensures l h.ensures has);
   asserts = λ a has. readable u regs flags p q a.says (All-contains (λ (x : Assert). IsOver regs flags x.says) n.asserts a h.asserts has);
 }
-
--- numbers from one on are as many as they are to be
-range_length : (n count : ℕ) → length (from_to n count) ≡ count
-range_length n zero = refl
-range_length n (suc count) = ap suc (range_length (n + 1) count)
 
 -- its questions are those of the program
 pub grounded : (p : Program) (k : ℕ) (form : Layout) (u : UnrolledProgram) → IsUnrolling p k u → IsFitted p.machine form → IsLaidOut form u → HasLawfulRows p →
@@ -209,6 +206,10 @@ askable u q measurable of = record {
   tells = subst (λ (z : Unrolled). IsPassive (unrolled_of z) (passive_of q)) (sym of.of) of.tells;
 }
 
+-- and its questions can be decided
+pub decidable : (u : Unrolled) (q : Passive) → IsMeasurable u → IsPassiveOf u q → IsDecidable q
+decidable u q measurable of = record { askable = askable u q measurable of; frame = frame_askable u q measurable of }
+
 -- what an unrolled program comes to by its price
 module _ (b : Budget) (u : Unrolled) (price : ℕ) (is : price ≡ min (unrolled_price (unrolled_of u)) (2 ^ 128 - 1)) (other : price ≡ 2 ^ 128 - 1 → ⊥) where
   pub is_above : b.size < price → IsWeighed b u (weighed.Above price)
@@ -235,6 +236,7 @@ module _ (b : Budget) (u : Unrolled) (came : Weighed) (h : IsWeighed b u came) w
     askable u q measurable of,
     λ p form g. (weighed_within price is p form g, passive_ground u q of p b.unroll form g.ground),
     of.of,
+    frame_askable u q measurable of,
   )
 
 -- what an unrolled program that was measured came to

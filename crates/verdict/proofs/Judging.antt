@@ -17,12 +17,9 @@ use Rattle.clause_spec.specs.Refutation.{Proof}
 use Rattle.bilv_spec.specs.Evidence.{Refutes, Spends}
 use Rattle.bilv_spec.specs.Answers.{IsWithin, HoldsReport, VacuousReport, FailsReport, UnrollReport, ConflictsReport, IsRightReport, EndsAs, start_in}
 use Rattle.bilv_spec.proofs.Deciding.{questions_are_of_runs, questions_decide}
-use Rattle.bilv_spec.proofs.FileWords.{runs_by_file}
 use Rattle.bilv_spec.proofs.Over.{one_end}
-use Rattle.bilv_spec.proofs.ReadingRuns.{ends_to}
 use Rattle.bilv_spec.proofs.RefutedQuestions.{refuted_is_false}
 use Rattle.walk_laws.proofs.RunEnds.{few_points_are_found}
-use Rattle.verdict.specs.Grounds.{IsFollowedBy}
 
 -- what written choices give is a choice
 choice_if : (b : Bool) (m n : ℕ) → m < 4 → n < 4 → (if b then m else n) < 4
@@ -52,32 +49,12 @@ event_same d e a m at n h = cc
 turn_same : (a m at n : ℕ) → FoundTurn a m ≡ FoundTurn at n → Turned a m ≡ Turned at n
 turn_same a m at n h = cc
 
--- a start that follows a reading of which some question is true is one from an entry state
-module _ (p : Program) (layout : Layout) (k : ℕ) (w : Written) where
-  -- its state
-  pub entry_state : (question : Question) → IsFollowedBy p k question (start_in p layout w) → IsEntryState p (start_in p layout w).state
-  entry_state question h = subst (λ (s : State). IsEntryState p s) (sym h.2.state) h.1.entry
-
-  pub starts : IsWritten layout (is_known_at p) w → (question : Question) → IsFollowedBy p k question (start_in p layout w) → IsStart p (start_in p layout w)
-  starts written question h = record { entry = entry_state question h; choices = written_choice layout (is_known_at p) w written }
-
-  -- its run ends as the question says
-  pub fails : HasLawfulRows p → ReadsMemory p → IsFollowedBy p k FailQuestion (start_in p layout w) → RunFails p k (start_in p layout w)
-  fails lawful reads h =
-      let f = ends_to p k h.0 (start_in p layout w) h.2 FailQuestion h.1.ends in
-      (f.0, f.1, f.2, f.3, runs_by_file p lawful reads k (start_in p layout w) (entry_state FailQuestion h) f.0 ∙ f.4)
-
 module _ (p : Program) (lawful : HasLawfulRows p) (reads : ReadsMemory p) (layout : Layout) (b : Budget) (within : IsWithin p b) (some : 1 ≤ b.points) where
   -- there is no entry state
   pub vacuous : (proof : Proof) → Refutes p b.unroll EntryQuestion proof → IsRightReport p layout b VacuousReport (EntryRefuted proof)
   vacuous proof h = (within, (questions_decide p lawful reads b.unroll Vacuous).0 (refuted_is_false p b.unroll EntryQuestion proof h), h)
 
   module _ (w : Written) (written : IsWritten layout (is_known_at p) w) where
-    turns : IsFollowedBy p b.unroll TurnQuestion (start_in p layout w) → RunTurns p b.unroll (start_in p layout w)
-    turns h =
-        let f = ends_to p b.unroll h.0 (start_in p layout w) h.2 TurnQuestion h.1.ends in
-        (f.0, f.1, f.2, runs_by_file p lawful reads b.unroll (start_in p layout w) (entry_state p layout b.unroll w TurnQuestion h) f.0 ∙ f.3)
-
     -- what is found of its run within as many steps as there may be points
     abbrev here : Found
     here = found p (Some b.unroll) (start_in p layout w) (b.points - 1)
@@ -89,12 +66,10 @@ module _ (p : Program) (lawful : HasLawfulRows p) (reads : ReadsMemory p) (layou
         let same = one_end p b.unroll (start_in p layout w) r.2.0 f.0 r.0 (Failed f.3 f.1 f.2) r.1 tt r.2.1 f.4 in
         (f.3, f.1, f.2, r.3 ∙ found_fails r.0 f.3 f.1 f.2 same, (f.0, f.4))
 
-    pub finds_turn : IsFollowedBy p b.unroll TurnQuestion (start_in p layout w) → (at : ℕ) × (n : ℕ) × (here ≡ FoundTurn at n)
-        × EndsAs p b.unroll (start_in p layout w) (Turned at n)
-    finds_turn h =
-        let f = turns h in
-        let entry = entry_state p layout b.unroll w TurnQuestion h in
-        let r = few_points_are_found p lawful reads b.unroll (start_in p layout w) entry b.points some within.points in
+    finds_turn : IsStart p (start_in p layout w) → RunTurns p b.unroll (start_in p layout w) →
+        (at : ℕ) × (n : ℕ) × (here ≡ FoundTurn at n) × EndsAs p b.unroll (start_in p layout w) (Turned at n)
+    finds_turn is f =
+        let r = few_points_are_found p lawful reads b.unroll (start_in p layout w) is.entry b.points some within.points in
         let same = one_end p b.unroll (start_in p layout w) r.2.0 f.0 r.0 (Turned f.1 f.2) r.1 tt r.2.1 f.3 in
         (f.1, f.2, r.3 ∙ found_turns r.0 f.1 f.2 same, (f.0, f.3))
 
@@ -116,21 +91,24 @@ module _ (p : Program) (lawful : HasLawfulRows p) (reads : ReadsMemory p) (layou
     no_other_event start failing f is none = let g = finds_event start failing in none g.0 g.1 g.2 (sym is ∙ g.3)
 
     -- no run fails, and some run makes one backward transfer too many
-    pub turns_report : (IsSatisfiable p b.unroll FailQuestion → ⊥) → IsFollowedBy p b.unroll TurnQuestion (start_in p layout w) → (at n : ℕ) →
-        here ≡ FoundTurn at n →
-        IsRightReport p layout b (UnrollReport at n) (RunOf w)
-    turns_report never h at n is =
-        let f = finds_turn h in
+    pub turns_report : (IsSatisfiable p b.unroll FailQuestion → ⊥) → IsStart p (start_in p layout w) → RunTurns p b.unroll (start_in p layout w) →
+        (at n : ℕ) → here ≡ FoundTurn at n → IsRightReport p layout b (UnrollReport at n) (RunOf w)
+    turns_report never start turning at n is =
+        let f = finds_turn start turning in
         let same = turn_same f.0 f.1 at n (sym f.2 ∙ is) in (
           within,
-          (questions_decide p lawful reads b.unroll Unroll).0 (never, (h.0, h.1)),
+          (questions_decide p lawful reads b.unroll Unroll).0 (
+            never,
+            (questions_are_of_runs p lawful reads b.unroll TurnQuestion).1 (start_in p layout w, start, turning),
+          ),
           written,
-          starts p layout b.unroll w written TurnQuestion h,
+          start,
           subst (λ (r : Run). EndsAs p b.unroll (start_in p layout w) r) same f.3,
         )
 
-    pub no_other_turn : IsFollowedBy p b.unroll TurnQuestion (start_in p layout w) → (f : Found) → here ≡ f → ((at n : ℕ) → f ≡ FoundTurn at n → ⊥) → ⊥
-    no_other_turn h f is none = let g = finds_turn h in none g.0 g.1 (sym is ∙ g.2)
+    pub no_other_turn : IsStart p (start_in p layout w) → RunTurns p b.unroll (start_in p layout w) → (f : Found) → here ≡ f →
+        ((at n : ℕ) → f ≡ FoundTurn at n → ⊥) → ⊥
+    no_other_turn start turning f is none = let g = finds_turn start turning in none g.0 g.1 (sym is ∙ g.2)
 
     -- all runs return without an event
     pub holds : IsEntryState p (start_in p layout w).state → (fail turn : Proof) → Refutes p b.unroll FailQuestion fail →
@@ -149,17 +127,17 @@ module _ (p : Program) (lawful : HasLawfulRows p) (reads : ReadsMemory p) (layou
     )
 
     -- the conflicts are spent on the fail question
-    pub spent_on_fail : IsFollowedBy p b.unroll EntryQuestion (start_in p layout w) → (proof : Proof) → Spends p b.unroll FailQuestion b.conflicts proof →
+    pub spent_on_fail : IsEntryState p (start_in p layout w).state → (proof : Proof) → Spends p b.unroll FailQuestion b.conflicts proof →
         IsRightReport p layout b ConflictsReport (SpentOn FailQuestion proof)
-    spent_on_fail h proof s = (within, ((start_in p layout w).state, entry_state p layout b.unroll w EntryQuestion h), s)
+    spent_on_fail entry proof s = (within, ((start_in p layout w).state, entry), s)
 
     -- and on the turn question
-    pub spent_on_turn : IsFollowedBy p b.unroll EntryQuestion (start_in p layout w) → (fail : Proof) → Refutes p b.unroll FailQuestion fail → (proof : Proof) →
+    pub spent_on_turn : IsEntryState p (start_in p layout w).state → (fail : Proof) → Refutes p b.unroll FailQuestion fail → (proof : Proof) →
         Spends p b.unroll TurnQuestion b.conflicts proof → IsRightReport p layout b ConflictsReport (SpentOn TurnQuestion proof)
-    spent_on_turn h fail f proof s = (
+    spent_on_turn entry fail f proof s = (
       within,
       (
-        ((start_in p layout w).state, entry_state p layout b.unroll w EntryQuestion h),
+        ((start_in p layout w).state, entry),
         λ start is fails. refuted_is_false p b.unroll FailQuestion fail f ((questions_are_of_runs p lawful reads b.unroll FailQuestion).1 (start, is, fails)),
       ),
       s,

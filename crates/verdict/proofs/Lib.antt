@@ -1,6 +1,7 @@
 pub mod Answering
 pub mod Judging
-pub mod RoundAnswers
+pub mod SameForms
+pub mod Headless
 pub mod Endings
 pub mod Adding
 pub mod Grounding

@@ -20,7 +20,7 @@ use Rattle.verdict.specs.declared.verdicts.Answered.TheVariants.{Sat, Refuted, S
 use Rattle.call_form.specs.declared.budget.Budget.{Budget}
 use Rattle.verdict.specs.declared.verdicts.Verdict.TheVariants.{Holds, Vacuous, Conflicts}
 use Rattle.verdict.proofs.Adding.{answered}
-use Rattle.verdict.proofs.Judging.{entry_state, vacuous, holds, spent_on_entry, spent_on_fail, spent_on_turn}
+use Rattle.verdict.proofs.Judging.{vacuous, holds, spent_on_entry, spent_on_fail, spent_on_turn}
 
 module _ (p : Program) (reads : ReadsMemory p) (layout : Layout) (b : Budget) (within : IsWithin p (budget_of b)) (some : 1 ≤ b.points) (u : UnrolledProgram)
     (ground : IsGround p b.unroll layout u) where
@@ -30,7 +30,7 @@ module _ (p : Program) (reads : ReadsMemory p) (layout : Layout) (b : Budget) (w
 
   -- which is the answer of the program
   pub is_answered : (question : Question) (a c : Answered) → Came question a → a ≡ c → IsAnswered p b.unroll layout question b.conflicts c
-  is_answered question a c came is = answered u question b.conflicts a c came is p b.unroll layout ground
+  is_answered question a c came is = answered u question b.conflicts a c came is p b.unroll layout reads ground
 
   pub vacuous_verdict : (a : Answered) (proof : Proof) → Came EntryQuestion a → a ≡ Refuted proof → IsVerdict p layout b (Vacuous proof)
   vacuous_verdict a proof came is =
@@ -62,6 +62,6 @@ module _ (p : Program) (reads : ReadsMemory p) (layout : Layout) (b : Budget) (w
       pub holds_verdict : (a : Answered) (turn : Proof) → Came TurnQuestion a → a ≡ Refuted turn → IsVerdict p layout b (Holds s refuted turn)
       holds_verdict a turn came is =
           let e = is_answered EntryQuestion entry (Sat s) entered is_entered in
-          holds p ground.lawful reads layout (budget_of b) within some (written_of s) e.0 (entry_state p layout b.unroll (written_of s) EntryQuestion e.1)
+          holds p ground.lawful reads layout (budget_of b) within some (written_of s) e.0 e.1
           (proof_of refuted) (proof_of turn)
           (is_answered FailQuestion fail (Refuted refuted) never is_never) (is_answered TurnQuestion a (Refuted turn) came is)

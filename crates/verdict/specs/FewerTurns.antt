@@ -6,7 +6,7 @@ use Rattle.bilv_spec.specs.Evidence.{Refutes}
 use Rattle.call_spec.specs.Calls.{FailQuestion, TurnQuestion}
 use Rattle.cnf_form.specs.Views.{proof_of}
 use Rattle.walk_spec.specs.Unrolled.{UnrolledProgram}
-use Rattle.verdict.specs.Grounds.{IsFailing, IsGround}
+use Rattle.verdict.specs.Grounds.{IsGround, IsShownBy}
 use Rattle.verdict.specs.Verdicts.{IsVerdict}
 use Rattle.verdict.specs.declared.early.Early.{Early}
 use Rattle.verdict.specs.declared.early.Early.TheVariants.{Settled, Turns, Open}
@@ -23,7 +23,7 @@ pub record IsSmaller (p : Program) (most : ℕ) (layout : Layout) (u : UnrolledP
 -- where no run makes more backward transfers than a smaller bound, both questions within the budget's bound are refuted, or the run from the start fails
 abbrev pub AreNoTurns : Program → ℕ → Layout → NoTurns → Type 0
 AreNoTurns p k layout (none.Refuted fail turn) = Refutes p k FailQuestion (proof_of fail) × Refutes p k TurnQuestion (proof_of turn)
-AreNoTurns p k layout (none.Fails start) = IsFailing p k layout start
+AreNoTurns p k layout (none.Fails start) = IsShownBy p k layout FailQuestion start
 AreNoTurns p k layout none.Turns = Unit {0}
 AreNoTurns p k layout none.Spent = Unit {0}
 

@@ -5,21 +5,15 @@ use Rattle.machine_spec.specs.StateText.{Layout, IsWritten, last_step}
 use Rattle.bilv_spec.specs.Run.{Program}
 use Rattle.machine_spec.specs.Endings as endings
 use Rattle.bilv_spec.specs.Points.{is_known_at}
-use Rattle.bilv_spec.specs.PointLaws.{HasLawfulRows}
-use Rattle.bilv_spec.specs.Verdict.{IsStart, RunFails}
-use Rattle.bilv_spec.specs.Questions.{Reading, IsTrue}
-use Rattle.call_spec.specs.Calls.{Question}
-use Rattle.bilv_spec.specs.QuestionLaws.{Follows}
+use Rattle.bilv_spec.specs.PointLaws.{HasLawfulRows, ReadsMemory}
+use Rattle.bilv_spec.specs.Verdict.{IsEntryState, IsStart, RunFails, RunTurns}
+use Rattle.call_spec.specs.Calls.{Question, EntryQuestion, FailQuestion, TurnQuestion}
 use Rattle.bilv_spec.specs.Answers.{start_in}
 use Rattle.bilv_spec.specs.Evidence.{Refutes, Spends}
 use Rattle.walk_spec.specs.Unrolled.{UnrolledProgram}
 use Rattle.walk_spec.specs.Unrolling.{IsUnrolling, IsLaidOut}
 use Rattle.term_spec.specs.WalkQuestions.{is_asked}
 use Rattle.walk_laws.specs.Layers.{IsFitting}
-use Rattle.call_form.specs.declared.kind.Kind.{Kind}
-use Rattle.question_form.specs.Asked.{asked_of}
-use Rattle.question_form.specs.declared.questions.Passive.{Passive}
-use Rattle.question_form.specs.declared.questions.Question as asked
 use Rattle.cnf_form.specs.Views.{proof_of}
 use Rattle.start_value.specs.Starts.{written_of}
 use Rattle.start_value.specs.declared.start.Start.{Start}
@@ -34,14 +28,19 @@ pub record IsGround (p : Program) (k : ℕ) (layout : Layout) (u : UnrolledProgr
   pub laid : IsLaidOut layout u
   pub steps : length u.points ≤ last_step + 1
 
--- some reading that makes the question true is followed by a start
-abbrev pub IsFollowedBy : Program → (k : ℕ) → Question → endings.Start → Type 0
-IsFollowedBy p k question start = (r : Reading) × IsTrue p k r question × Follows p k r start
+-- a start has a question's run: it is from an entry state, and its run has an event, or makes one backward transfer too many
+abbrev pub HasRunOf : Program → (k : ℕ) → Question → endings.Start → Type 0
+HasRunOf p k EntryQuestion start = IsEntryState p start.state
+HasRunOf p k FailQuestion start = IsStart p start × RunFails p k start
+HasRunOf p k TurnQuestion start = IsStart p start × RunTurns p k start
 
--- A question is answered: by a start that can be written, with a reading that makes the question true; by a refutation; or by a log that spends the conflicts.
+-- a start that can be written has a question's run
+abbrev pub IsShownBy : Program → (k : ℕ) → Layout → Question → Start → Type 0
+IsShownBy p k layout question s = IsWritten layout (is_known_at p) (written_of s) × HasRunOf p k question (start_in p layout (written_of s))
+
+-- A question is answered: by a start that shows that it is true; by a refutation; or by a log that spends the conflicts.
 abbrev pub IsAnswered : Program → (k : ℕ) → Layout → Question → (conflicts : ℕ) → Answered → Type 0
-IsAnswered p k layout question conflicts (Sat s) =
-    IsWritten layout (is_known_at p) (written_of s) × IsFollowedBy p k question (start_in p layout (written_of s))
+IsAnswered p k layout question conflicts (Sat s) = IsShownBy p k layout question s
 IsAnswered p k layout question conflicts (Refuted proof) = Refutes p k question (proof_of proof)
 IsAnswered p k layout question conflicts (Spent proof) = Spends p k question conflicts (proof_of proof)
 
@@ -56,22 +55,13 @@ IsAnsweredOver p k layout question asked conflicts (Sat s) = IsAnswered p k layo
 IsAnsweredOver p k layout question asked conflicts (Refuted proof) = RefutesOver p k question asked (proof_of proof)
 IsAnsweredOver p k layout question asked conflicts (Spent proof) = IsAnswered p k layout question conflicts (Spent proof)
 
--- it is the answer over the bytes that were added to those of literals, for every program of which the unrolled program is
+-- it is the answer over the bytes that were added to those of literals, for every program of which the unrolled program is, and that reads memory
 abbrev pub AnswersOver : UnrolledProgram → Question → (added : List ℕ) → (conflicts : ℕ) → Answered → Type 0
 AnswersOver u question added conflicts a =
-    (p : Program) (k : ℕ) (layout : Layout) → IsGround p k layout u → IsAnsweredOver p k layout question (is_asked added u.literals) conflicts a
+    (p : Program) (k : ℕ) (layout : Layout) → ReadsMemory p → IsGround p k layout u →
+    IsAnsweredOver p k layout question (is_asked added u.literals) conflicts a
 
--- a start that can be written has a run with an event
-pub record IsFailing (p : Program) (k : ℕ) (layout : Layout) (s : Start) : Type 0 where
-  pub written : IsWritten layout (is_known_at p) (written_of s)
-  pub start : IsStart p (start_in p layout (written_of s))
-  pub fails : RunFails p k (start_in p layout (written_of s))
-
--- it is the answer for every program of which the unrolled program is
+-- it is the answer for every program of which the unrolled program is, and that reads memory
 abbrev pub Answers : UnrolledProgram → Question → (conflicts : ℕ) → Answered → Type 0
-Answers u question conflicts a = (p : Program) (k : ℕ) (layout : Layout) → IsGround p k layout u → IsAnswered p k layout question conflicts a
-
--- a question is that of a passive program
-pub record IsQuestionOf (p : Passive) (kind : Kind) (q : asked.Question) : Type 0 where
-  pub of : q.passive.now ≡ p
-  pub kind_is : q.asked ≡ asked_of kind
+Answers u question conflicts a =
+    (p : Program) (k : ℕ) (layout : Layout) → ReadsMemory p → IsGround p k layout u → IsAnswered p k layout question conflicts a

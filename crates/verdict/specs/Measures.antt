@@ -11,6 +11,7 @@ use Rattle.question_form.specs.FrameViews.{IsHeadless}
 use Rattle.question_form.specs.Views.{unrolled_of}
 use Rattle.question_form.specs.declared.unrolled.Unrolled.{Unrolled}
 use Rattle.walk_spec.specs.Unrolling.{IsWalkable}
+use Rattle.frame_start.specs.Segments.{IsFrameAskable}
 use Rattle.verdict.specs.Grounds.{IsGround}
 use Rattle.verdict.specs.Rounds.{HasBytes, IsAskable}
 use Rattle.verdict.specs.declared.measuring.Measured.{Measured}
@@ -45,4 +46,4 @@ IsMeasured b u (Above price) =
     (p : Program) (layout : Layout) → IsUnrolledOf p layout b u → (¬ HasMore p b.unroll b.points) × IsPrice p b.unroll price × (b.size < price)
 IsMeasured b u (Within q) =
     IsAskable q × ((p : Program) (layout : Layout) → IsUnrolledOf p layout b u → IsWithin p b × IsGround p b.unroll layout (unrolled_of q.unrolled.now))
-    × (q.unrolled.now ≡ u)
+    × (q.unrolled.now ≡ u) × IsFrameAskable q

@@ -4,6 +4,7 @@ ghost use Rattle.bilv_spec.specs.Files.{order_of, program_of};
 ghost use Rattle.call_spec.specs.Calls as answers;
 ghost use Rattle.call_spec.specs.Calls.{Question};
 ghost use Rattle.bilv_spec.specs.Answers.{IsWithin};
+ghost use Rattle.bilv_spec.specs.PointLaws.{HasLawfulRows, ReadsMemory};
 ghost use Rattle.bilv_spec.specs.Run.{Program};
 ghost use Rattle.machine_spec.specs.StateText.{Layout};
 ghost use Rattle.question_form.specs.Views.{kind_of};
@@ -13,8 +14,9 @@ ghost use Rattle.verdict.specs.Grounds.{IsAnswered};
 ghost use Rattle.verdict.specs.Measures.{IsMeasurable, IsUnrolledOf};
 ghost use Rattle.verdict.specs.Verdicts.{IsCertificate, budget_of};
 
+use crate::deciding::decide;
 use crate::measuring::{Measured, measure, unroll_within};
-use crate::{Answered, Budget, Certified, Exceeded, decide};
+use crate::{Answered, Budget, Certified, Exceeded};
 use elf32_reader::Image;
 use machine_law::Machine;
 use notes_value::Notes;
@@ -24,8 +26,8 @@ use std::alloc::{AllocError, Global};
 
 /// What the answer to a question of a program within the budgets certifies.
 fn certified(answered: Answered) -> Certified
-    ensures { (p : Program) (layout : Layout) (b : answers.Budget) (question : Question) → IsWithin p b →
-        IsAnswered p b.unroll layout question b.conflicts answered →
+    ensures { (p : Program) (layout : Layout) (b : answers.Budget) (question : Question) → HasLawfulRows p → ReadsMemory p →
+        IsWithin p b → IsAnswered p b.unroll layout question b.conflicts answered →
         IsCertificate p b question result }
 {
     match answered {
@@ -43,7 +45,7 @@ fn certify_unrolled(
     unrolled: &Unrolled,
 ) -> Result<Certified, AllocError>
     requires measurable { IsMeasurable unrolled.now }
-    ensures { IfOk result (λ c. (p : Program) (layout : Layout) → IsUnrolledOf p layout (budget_of budget.now) unrolled.now →
+    ensures { IfOk result (λ c. (p : Program) (layout : Layout) → ReadsMemory p → IsUnrolledOf p layout (budget_of budget.now) unrolled.now →
         IsCertificate p (budget_of budget.now) (kind_of kind) c) }
 {
     match measure(alloc, budget, unrolled)? {

@@ -1,15 +1,17 @@
-//! Questions, decided in rounds.
-ghost use Rattle.std.specs.Prelude.{◌≤◌, IfOk};
+//! Questions, decided in rounds as those of the frame of the program.
+ghost use Rattle.std.specs.Prelude.{◌≡◌, ◌≤◌, IfOk, length};
 ghost use Rattle.question_form.specs.Questions.{program_of_question};
 ghost use Rattle.question_form.specs.Views.{kind_of, unrolled_of};
-ghost use Rattle.verdict.specs.Rounds.{AreAdded, AreFurther, AreMore, IsAskable, IsDecided};
+ghost use Rattle.start_value.specs.Starts.{written_of};
+ghost use Rattle.verdict.specs.Rounds.{AreAdded, AreFurther, AreMore, IsDecidable, IsDecided, IsTold, entry_shown};
 ghost use Rattle.verdict.specs.Grounds.{Answers};
 
 use crate::Answered;
-use crate::rounds::{Round, one_round};
-use question_form::{Kind, Passive, Question};
+use frame_rounds::{FrameAnswered, FrameDecided, decide_frame_from};
+use frame_start::Segments;
+use question_form::{Asked, Kind, Passive, Question};
+use start_value::Start;
 use std::alloc::{AllocError, Global};
-use weakest_pre::question;
 
 /// The addresses whose bytes the next round asks: those that were asked, and the known ones in the blocks of the broken ones. The error is want of memory.
 pub fn asked_next(
@@ -33,6 +35,32 @@ pub struct Decided {
     pub asked: Vec<u32>,
 }
 
+/// The start that is shown of the one segment of a program: the entry, with the choices of the segment.
+fn start_shown(alloc: Global, segments: Segments) -> Start
+    ensures { length segments.choices.items ≡ 1 → written_of result ≡ entry_shown segments }
+{
+    let Segments { parts, mut choices } = segments;
+    let choices = match choices.pop() {
+        Some(choices) => choices,
+        None => Vec::new(alloc),
+    };
+    Start {
+        choices,
+        ..parts.entry
+    }
+}
+
+/// The answer to a question of the frame of a program as one of the program.
+fn told(alloc: Global, answered: FrameAnswered) -> Answered
+    ensures { IsTold answered result }
+{
+    match answered {
+        FrameAnswered::Sat(segments) => Answered::Sat(start_shown(alloc, segments)),
+        FrameAnswered::Refuted(proof) => Answered::Refuted(proof),
+        FrameAnswered::Spent(proof) => Answered::Spent(proof),
+    }
+}
+
 /// What a question of a passive program comes to, within so many conflicts of the search, where the bytes at some addresses are asked from the beginning. The
 /// error is want of memory.
 pub fn decide_from(
@@ -43,18 +71,18 @@ pub fn decide_from(
     first: Vec<u32>,
 ) -> Result<Decided, AllocError>
     requires some { 1 ≤ conflicts }
-    requires askable { IsAskable passive.now }
+    requires decidable { IsDecidable passive.now }
     requires first { AreAdded (unrolled_of passive.now.unrolled.now) first.items }
     ensures { IfOk result (λ d. IsDecided (unrolled_of passive.now.unrolled.now) (kind_of kind) conflicts first.items d) }
 {
-    let question = question(alloc, passive, kind)?;
-    let mut asked = first;
-    loop {
-        match one_round(alloc, &question, &asked, conflicts)? {
-            Round::Answered(answered) => return Ok(Decided { answered, asked }),
-            Round::Broken(broken) => asked = asked_next(alloc, &question, &asked, &broken)?,
-        }
-    }
+    let asked = Asked::of_program(kind);
+    let FrameDecided { answered, added } = decide_frame_from(
+        alloc, passive, asked, conflicts, first,
+    )?;
+    Ok(Decided {
+        answered: told(alloc, answered),
+        asked: added,
+    })
 }
 
 /// What a question of a passive program comes to, within so many conflicts of the search. The bytes of the file are asked on demand: at first those of literals
@@ -67,7 +95,7 @@ pub fn decide(
     conflicts: u64,
 ) -> Result<Answered, AllocError>
     requires some { 1 ≤ conflicts }
-    requires askable { IsAskable passive.now }
+    requires decidable { IsDecidable passive.now }
     ensures { IfOk result (λ a. Answers (unrolled_of passive.now.unrolled.now) (kind_of kind) conflicts a) }
 {
     let none = Vec::new(alloc);

@@ -13,13 +13,13 @@ ghost use Rattle.verdict.specs.Functions.{program_of_function};
 ghost use Rattle.verdict.specs.Grounds.{AnswersOver};
 ghost use Rattle.verdict.specs.FewerTurns.{AreNoTurns, IsEarly, IsSmaller};
 ghost use Rattle.verdict.specs.Measures.{IsMeasurable, IsUnrolledOf};
-ghost use Rattle.verdict.specs.Rounds.{AreAdded, IsAskable};
+ghost use Rattle.verdict.specs.Rounds.{AreAdded, IsDecidable};
 ghost use Rattle.verdict.specs.Verdicts.{IsVerdict, budget_of};
 
-use crate::deciding::{Decided, decide_from};
+use crate::deciding::{Decided, decide, decide_from};
 use crate::measuring::unroll_within;
 use crate::shown::{Function, failing};
-use crate::{Answered, Budget, Verdict, decide};
+use crate::{Answered, Budget, Verdict};
 use bit_blast::free_inputs;
 use cnf_form::{Cnf, Proof};
 use machine_law::Machine;
@@ -81,7 +81,7 @@ fn ask_fails<M: Machine>(
 ) -> Result<NoTurns, AllocError>
     requires whole { IsUnrolledOf (program_of_function M.machine function.now) M.form (budget_of budget.now) whole.now }
     requires smaller { IsSmaller (program_of_function M.machine function.now) budget.now.unroll M.form (unrolled_of passive.now.unrolled.now) }
-    requires askable { IsAskable passive.now }
+    requires decidable { IsDecidable passive.now }
     requires added { AreAdded (unrolled_of passive.now.unrolled.now) asked.items }
     requires turn { AnswersOver (unrolled_of passive.now.unrolled.now) TurnQuestion asked.items budget.now.conflicts (Answered.Refuted turn) }
     ensures { IfOk result (AreNoTurns (program_of_function M.machine function.now) budget.now.unroll M.form) }
@@ -115,7 +115,7 @@ fn ask_turns<M: Machine>(
 ) -> Result<NoTurns, AllocError>
     requires whole { IsUnrolledOf (program_of_function M.machine function.now) M.form (budget_of budget.now) whole.now }
     requires smaller { IsSmaller (program_of_function M.machine function.now) budget.now.unroll M.form (unrolled_of passive.now.unrolled.now) }
-    requires askable { IsAskable passive.now }
+    requires decidable { IsDecidable passive.now }
     ensures { IfOk result (AreNoTurns (program_of_function M.machine function.now) budget.now.unroll M.form) }
 {
     let none = Vec::new(alloc);
@@ -149,7 +149,7 @@ fn ask_entry<M: Machine>(
     requires within { IsWithin (program_of_function M.machine function.now) (budget_of budget.now) }
     requires whole { IsUnrolledOf (program_of_function M.machine function.now) M.form (budget_of budget.now) whole.now }
     requires smaller { IsSmaller (program_of_function M.machine function.now) budget.now.unroll M.form (unrolled_of passive.now.unrolled.now) }
-    requires askable { IsAskable passive.now }
+    requires decidable { IsDecidable passive.now }
     requires fail { Refutes (program_of_function M.machine function.now) budget.now.unroll FailQuestion (proof_of fail) }
     requires turn { Refutes (program_of_function M.machine function.now) budget.now.unroll TurnQuestion (proof_of turn) }
     ensures { IfOk result (IsEarly (program_of_function M.machine function.now) M.form budget.now) }
@@ -178,7 +178,7 @@ fn judge_passive<M: Machine>(
     requires within { IsWithin (program_of_function M.machine function.now) (budget_of budget.now) }
     requires whole { IsUnrolledOf (program_of_function M.machine function.now) M.form (budget_of budget.now) whole.now }
     requires smaller { IsSmaller (program_of_function M.machine function.now) budget.now.unroll M.form (unrolled_of passive.now.unrolled.now) }
-    requires askable { IsAskable passive.now }
+    requires decidable { IsDecidable passive.now }
     ensures { IfOk result (IsEarly (program_of_function M.machine function.now) M.form budget.now) }
 {
     match ask_turns::<M>(alloc, function, budget, whole, passive)? {

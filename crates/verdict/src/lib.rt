@@ -5,7 +5,6 @@ mod certifying;
 mod deciding;
 mod early;
 mod measuring;
-mod rounds;
 mod scripting;
 mod shown;
 mod verdicts;
@@ -13,7 +12,7 @@ mod verifying;
 
 pub use call_form::Budget;
 pub use certifying::certify;
-pub use deciding::{asked_next, decide};
+pub use deciding::asked_next;
 pub use measuring::{Measured, measure, unroll_within};
 pub use scripting::script;
 pub use shown::Function;

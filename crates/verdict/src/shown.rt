@@ -13,10 +13,10 @@ ghost use Rattle.notes_value.specs.Reads.{AreReadable};
 ghost use Rattle.start_value.specs.Starts.{written_of};
 ghost use Rattle.table_run.specs.Endings.{found_of};
 ghost use Rattle.verdict.specs.Functions.{program_of_function};
-ghost use Rattle.verdict.specs.Grounds.{IsAnswered, IsFailing};
+ghost use Rattle.verdict.specs.Grounds.{IsShownBy};
 ghost use Rattle.verdict.specs.Verdicts.{IsVerdict, budget_of};
 
-use crate::{Answered, Budget, Verdict};
+use crate::{Budget, Verdict};
 use elf32_reader::Image;
 use machine_law::Machine;
 use notes_value::Notes;
@@ -69,7 +69,7 @@ pub fn failing<M: Machine>(
     requires readable { AreReadable M.machine.has_register (notes_of function.now.notes.now) }
     requires within { IsWithin (program_of_function M.machine function.now) (budget_of budget.now) }
     requires lawful { HasLawfulRows (program_of_function M.machine function.now) }
-    requires fails { IsFailing (program_of_function M.machine function.now) budget.now.unroll M.form start }
+    requires fails { IsShownBy (program_of_function M.machine function.now) budget.now.unroll M.form FailQuestion start }
     ensures { IfOk result (λ v. IsVerdict (program_of_function M.machine function.now) M.form budget.now v) }
 {
     match ending::<M>(alloc, function, budget, &start)? {
@@ -95,7 +95,7 @@ pub fn turning<M: Machine>(
     requires within { IsWithin (program_of_function M.machine function.now) (budget_of budget.now) }
     requires lawful { HasLawfulRows (program_of_function M.machine function.now) }
     requires never { IsSatisfiable (program_of_function M.machine function.now) budget.now.unroll FailQuestion → ⊥ }
-    requires turns { IsAnswered (program_of_function M.machine function.now) budget.now.unroll M.form TurnQuestion budget.now.conflicts (Answered.Sat start) }
+    requires turns { IsShownBy (program_of_function M.machine function.now) budget.now.unroll M.form TurnQuestion start }
     ensures { IfOk result (λ v. IsVerdict (program_of_function M.machine function.now) M.form budget.now v) }
 {
     match ending::<M>(alloc, function, budget, &start)? {

@@ -8,13 +8,14 @@ ghost use Rattle.notes_value.specs.Reads.{AreOver, AreReadable};
 ghost use Rattle.verdict.specs.Functions.{program_of_function};
 ghost use Rattle.verdict.specs.Grounds.{IsGround};
 ghost use Rattle.verdict.specs.Measures.{IsUnrolledOf};
-ghost use Rattle.verdict.specs.Rounds.{IsAskable};
+ghost use Rattle.verdict.specs.Rounds.{IsDecidable};
 ghost use Rattle.verdict.specs.Verdicts.{IsVerdict, budget_of};
 
+use crate::deciding::decide;
 use crate::early::judge_early;
 use crate::measuring::{Weighed, unroll_within, weigh};
 use crate::shown::{Function, failing, turning};
-use crate::{Answered, Budget, Exceeded, Verdict, decide};
+use crate::{Answered, Budget, Exceeded, Verdict};
 use elf32_reader::Image;
 use machine_law::Machine;
 use notes_value::Notes;
@@ -37,7 +38,7 @@ fn judge<M: Machine>(
     requires readable { AreReadable M.machine.has_register (notes_of function.now.notes.now) }
     requires within { IsWithin (program_of_function M.machine function.now) (budget_of budget.now) }
     requires ground { IsGround (program_of_function M.machine function.now) budget.now.unroll M.form (unrolled_of passive.now.unrolled.now) }
-    requires askable { IsAskable passive.now }
+    requires decidable { IsDecidable passive.now }
     ensures { IfOk result (λ v. IsVerdict (program_of_function M.machine function.now) M.form budget.now v) }
 {
     let entered = match decide(alloc, passive, Kind::Entry, budget.conflicts)? {

@@ -1,6 +1,5 @@
 use Rattle.call_form.specs.declared.kind.Kind.TheVariants.{Fail}
-use Rattle.verdict.proofs.Adding.{askable_question}
-use Rattle.verdict.proofs.RoundAnswers.{askable_cells}
+use Rattle.condition_tests.proofs.Asked.{askable_cells, askable_question}
 use Rattle.condition_tests.proofs.studies.broken_of.Goals as goal
 
 pub question-requires-clause-walkable : goal.question-requires-clause-walkable

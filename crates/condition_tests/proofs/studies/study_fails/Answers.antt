@@ -1,5 +1,5 @@
 use Rattle.call_form.specs.declared.kind.Kind.TheVariants.{Fail}
-use Rattle.verdict.proofs.Adding.{askable_question}
+use Rattle.condition_tests.proofs.Asked.{askable_question}
 use Rattle.condition_tests.proofs.studies.study_fails.Goals as goal
 
 pub question-requires-clause-walkable : goal.question-requires-clause-walkable

@@ -1,6 +1,6 @@
 use Rattle.std.proofs.Common.{subst, sym}
 use Rattle.asked_bytes.specs.AskedBytes.{AreRising}
-use Rattle.verdict.proofs.RoundAnswers.{askable_cells}
+use Rattle.condition_tests.proofs.Asked.{askable_cells}
 use Rattle.condition_tests.proofs.studies.study_question.Goals as goal
 
 pub cells_some-requires-clause-bytes : goal.cells_some-requires-clause-bytes

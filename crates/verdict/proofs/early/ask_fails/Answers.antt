@@ -12,7 +12,8 @@ free_inputs-inputs-requires g c =
 pub returns-in-Refuted : goal.returns-in-Refuted
 returns-in-Refuted g c =
     early_refuted (program_of_function g.M.Machine.machine c.args.function.now) g.M.Machine.form c.args.budget.now (unrolled_of c.args.passive.now.unrolled.now)
-    c.requires.smaller c.args.whole.now c.requires.whole c.free_inputs-inputs.result c.free_inputs-inputs.ensures c.args.asked.items _ c.args.turn
+    c.requires.smaller c.args.whole.now c.requires.whole c.free_inputs-inputs.result c.free_inputs-inputs.ensures
+    (function_is_read g.M.Machine.machine c.args.function.now g.met.M.Machine.lawful) c.args.asked.items _ c.args.turn
     c.in-Refuted.fail c.over_variables-turn.result c.over_variables-fail.result c.requires.turn c.in_ok-answered.ensures c.in-Refuted.is
     c.over_variables-turn.ensures c.over_variables-fail.ensures
 

@@ -2,7 +2,6 @@ use Rattle.call_spec.specs.Calls.{FailQuestion, TurnQuestion}
 use Rattle.question_form.specs.Views.{unrolled_of}
 use Rattle.verdict.specs.Functions.{program_of_function}
 use Rattle.verdict.specs.declared.verdicts.Answered.TheVariants.{Sat}
-use Rattle.verdict.proofs.Endings.{fails_by}
 use Rattle.verdict.proofs.Grounding.{function_is_read}
 use Rattle.verdict.proofs.ThreeQuestions.{is_answered, vacuous_verdict, spent_on_entry_verdict, spent_on_fail_verdict, none_fails, spent_on_turn_verdict, holds_verdict}
 use Rattle.verdict.proofs.verifying.judge.Goals as goal
@@ -23,14 +22,11 @@ returns-in-Spent g c =
 
 pub failing-requires-clause-fails : goal.failing-requires-clause-fails
 failing-requires-clause-fails g c =
-    fails_by (program_of_function g.M.Machine.machine c.args.function.now) c.requires.ground.lawful
-    (function_is_read g.M.Machine.machine c.args.function.now g.met.M.Machine.lawful) g.M.Machine.form c.args.budget.now.unroll c.args.budget.now.conflicts
-    c.in-Sat-2.start
-    (is_answered (program_of_function g.M.Machine.machine c.args.function.now)
+    is_answered (program_of_function g.M.Machine.machine c.args.function.now)
     (function_is_read g.M.Machine.machine c.args.function.now g.met.M.Machine.lawful) g.M.Machine.form c.args.budget.now
     c.requires.within c.args.budget.now.in_range.points.0
     (unrolled_of c.args.passive.now.unrolled.now) c.requires.ground FailQuestion c.in_ok-start-2.field-0
-    (Sat c.in-Sat-2.start) c.in_ok-start-2.ensures c.in-Sat-2.is)
+    (Sat c.in-Sat-2.start) c.in_ok-start-2.ensures c.in-Sat-2.is
 
 pub returns-in-Spent-2 : goal.returns-in-Spent-2
 returns-in-Spent-2 g c =
