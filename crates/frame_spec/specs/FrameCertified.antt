@@ -1,5 +1,5 @@
 -- What the command that certifies a question answers where notes have invariants or contracts: the question is one of a frame.
-use Rattle.std.specs.Prelude.{ℕ, ◌<◌, ◌+◌, List, [], codes}
+use Rattle.std.specs.Prelude.{ℕ, ◌<◌, ◌+◌, List, codes}
 use Rattle.word_spec.specs.Texts.{line}
 use Rattle.clause_spec.specs.Refutation.{Proof}
 use Rattle.clause_spec.specs.Certificates.{certificate_text}
