@@ -13,11 +13,16 @@ use Rattle.frame_spec.specs.FramePoints.{says_of}
 use Rattle.frame_spec.specs.FrameWalk.{UnrolledPoint, UnrolledProgram}
 use Rattle.frame_laws.proofs.OnceLists.{mapped_sum, mapped_lines}
 use Rattle.frame_laws.specs.HeadlessLaws.{as_aim, as_exit, as_action, as_place, as_unrolled}
-use Rattle.frame_laws.specs.FramePrices.{is_edge, is_outward, goes_out, lines_into, line_of, action_lines, exit_lines, edges_of, lines_at, entry_lines, root_lines, point_lines, lines_of, point_loads, loads_of, stores_of, own_writes, own_exit, own_exits, point_price, term_price, unrolled_price, action_size, variables_of, list_nodes, node_bound, point_bound, FramePartsAddUp, HeadlessBounds}
+use Rattle.frame_laws.specs.FramePrices.{is_edge, is_outward, goes_out, lines_into, line_of, action_lines, exit_lines, edges_of, lines_at, required_lines, own_lines, root_lines, begin_lines, point_lines, lines_of, point_loads, loads_of, stores_of, own_writes, own_exit, own_exits, point_price, term_price, unrolled_price, action_size, variables_of, list_nodes, node_bound, point_bound, FramePartsAddUp, HeadlessBounds}
 
 -- a sum over all lines is one over their parts
-parts : (g : Expr → ℕ) (a b c : List Expr) → sum_by g (a ++ b ++ c) ≡ sum_by g a + sum_by g b + sum_by g c
-parts g a b c = sum_by-append g (a ++ b) c ∙ ap (λ z. z + sum_by g c) (sum_by-append g a b)
+parts : (g : Expr → ℕ) (a o b c : List Expr) → sum_by g (a ++ o ++ b ++ c) ≡ sum_by g a + sum_by g (o ++ b) + sum_by g c
+parts g a o b c =
+    let all = sum_by-append g (a ++ o ++ b) c in
+    let three = sum_by-append g (a ++ o) b in
+    let two = sum_by-append g a o in
+    let last = sum_by-append g o b in
+    omega (arith, all, three, two, last)
 
 price_parts : (h r e a b c o w k : ℕ) → 1024 + h + r + e + (a + b + c) + o + w + k ≡ r + e + c + o + w + k + (1024 + a) + (h + b)
 price_parts h r e a b c o w k = omega arith
@@ -31,23 +36,23 @@ bound_parts n e v m p a b c s w = omega arith
 
 pub frame_parts_add_up : FramePartsAddUp
 frame_parts_add_up u heads =
-    let lines = parts line_price (entry_lines u) (root_lines u) (point_lines u) in
-    let loads = parts bytes_loaded (entry_lines u) (root_lines u) (point_lines u) in
-    let steps = parts (λ x. line_size x + 4) (entry_lines u) (root_lines u) (point_lines u) in
+    let lines = parts line_price (required_lines u) (own_lines u) (root_lines u) (point_lines u) in
+    let loads = parts bytes_loaded (required_lines u) (own_lines u) (root_lines u) (point_lines u) in
+    let steps = parts (λ x. line_size x + 4) (required_lines u) (own_lines u) (root_lines u) (point_lines u) in
     let h : ℕ = if heads then 1024 else 0 in (
       ap (λ z. 1024 + (if heads then 1024 else 0) + sum_by (λ q. q.row) u.points + 1280 * edges_of u + z + own_exits u + 512 * (stores_of u * own_writes u)
           + 128 * (stores_of u * length u.kept)) lines
-          ∙ price_parts (if heads then 1024 else 0) (sum_by (λ q. q.row) u.points) (1280 * edges_of u) (sum_by line_price (entry_lines u))
-          (sum_by line_price (root_lines u)) (sum_by line_price (point_lines u)) (own_exits u) (512 * (stores_of u * own_writes u))
+          ∙ price_parts (if heads then 1024 else 0) (sum_by (λ q. q.row) u.points) (1280 * edges_of u) (sum_by line_price (required_lines u))
+          (sum_by line_price (begin_lines u)) (sum_by line_price (point_lines u)) (own_exits u) (512 * (stores_of u * own_writes u))
           (128 * (stores_of u * length u.kept)),
       ap (λ z. sum_by (λ q. q.loads) u.points + z) loads
-          ∙ load_parts (sum_by (λ q. q.loads) u.points) (sum_by bytes_loaded (entry_lines u)) (sum_by bytes_loaded (root_lines u))
+          ∙ load_parts (sum_by (λ q. q.loads) u.points) (sum_by bytes_loaded (required_lines u)) (sum_by bytes_loaded (begin_lines u))
           (sum_by bytes_loaded (point_lines u)),
       ap (λ z. 4 * (list_nodes u + variables_of u * edges_of u
           + (variables_of u + 16 + (length u.roots - 1) * (variables_of u + 16) + 16 * length u.points + z
           + 4 * (stores_of u * length u.kept) + 4 * (stores_of u * own_writes u)))) steps
           ∙ bound_parts (list_nodes u) (variables_of u * edges_of u) (variables_of u) ((length u.roots - 1) * (variables_of u + 16)) (16 * length u.points)
-          (line_steps (entry_lines u)) (line_steps (root_lines u)) (line_steps (point_lines u)) (4 * (stores_of u * length u.kept))
+          (line_steps (required_lines u)) (line_steps (begin_lines u)) (line_steps (point_lines u)) (4 * (stores_of u * length u.kept))
           (4 * (stores_of u * own_writes u)),
     )
 

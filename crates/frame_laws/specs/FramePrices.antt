@@ -60,17 +60,29 @@ edges_of u = sum_by (λ q. sum_by is_edge q.exits) u.points
 abbrev pub lines_at : UnrolledProgram → UnrolledPoint → List Expr
 lines_at u q = flat_map line_of q.exits ++ action_lines q.does ++ (if list_any goes_out q.exits then exit_lines u else [])
 
--- the lines that are evaluated at the entry: those that are required, and those that say what the frame's own contract may write
-abbrev pub entry_lines : UnrolledProgram → List Expr
-entry_lines u = says_of u.requires ++ by u.own
+-- the lines that are required of entry states
+abbrev pub required_lines : UnrolledProgram → List Expr
+required_lines u = says_of u.requires
+
+-- the lines that say what the frame's own contract may write, which are evaluated at the entry
+abbrev pub own_lines : UnrolledProgram → List Expr
+own_lines u = by u.own
   where
     by : Option Own → List Expr
     by None = []
     by (Some x) = map (λ w. w.says) x.writes
 
+-- the lines that are evaluated at the entry
+abbrev pub entry_lines : UnrolledProgram → List Expr
+entry_lines u = required_lines u ++ own_lines u
+
 -- the lines that the roots assume
 abbrev pub root_lines : UnrolledProgram → List Expr
 root_lines u = flat_map (λ x. says_of x.assumes) u.roots
+
+-- the lines that the terms of the points stand on, evaluated where segments begin: all but those that are required
+abbrev pub begin_lines : UnrolledProgram → List Expr
+begin_lines u = own_lines u ++ root_lines u
 
 -- the lines that are evaluated at the points
 abbrev pub point_lines : UnrolledProgram → List Expr
@@ -164,19 +176,19 @@ point_bound u =
 
 -- the part for the entry condition, and for tying it to the points
 abbrev pub entry_bound : UnrolledProgram → ℕ
-entry_bound u = 2 * variables_of u + 16 + 4 * line_steps (entry_lines u)
+entry_bound u = 2 * variables_of u + 16 + 4 * line_steps (required_lines u)
 
--- the part for the roots behind the entry's, and for what they assume
+-- the part for the roots after the entry's, for what they assume, and for what the frame's own contract may write
 abbrev pub root_bound : UnrolledProgram → ℕ
-root_bound u = 4 * ((length u.roots - 1) * (variables_of u + 16)) + 4 * line_steps (root_lines u)
+root_bound u = 4 * ((length u.roots - 1) * (variables_of u + 16)) + 4 * line_steps (begin_lines u)
 
--- What a question's term may have is what the terms of the points may, what is left for the entry condition, and what is left for the roots.
+-- What a question's term may have is what the terms of the points may, what is left for the entry condition, and what is left for where segments begin.
 abbrev pub FramePartsAddUp : Type 0
 FramePartsAddUp =
     (u : UnrolledProgram) (heads : Bool) →
     (term_price u heads
-    ≡ point_price u + (1024 + sum_by line_price (entry_lines u)) + ((if heads then 1024 else 0) + sum_by line_price (root_lines u)))
-    × (loads_of u ≡ point_loads u + sum_by bytes_loaded (entry_lines u) + sum_by bytes_loaded (root_lines u))
+    ≡ point_price u + (1024 + sum_by line_price (required_lines u)) + ((if heads then 1024 else 0) + sum_by line_price (begin_lines u)))
+    × (loads_of u ≡ point_loads u + sum_by bytes_loaded (required_lines u) + sum_by bytes_loaded (begin_lines u))
     × (node_bound u ≡ point_bound u + entry_bound u + root_bound u)
 
 -- Of an unrolled program the price and the bounds are those of its unrolled frame.

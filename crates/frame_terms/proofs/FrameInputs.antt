@@ -62,7 +62,7 @@ module _ {X Y : Type 0} where
       (λ y c d. (let q = of_flat h xs y d in not_in_tail x xs a (subst (λ z. Contains xs z) (sym (one x q.0 y c q.2)) q.1)))
 
 -- the numbers from one on
-of_range : (n k r : ℕ) → Contains (from_to n k) r → (n ≤ r) × (r < n + k)
+pub of_range : (n k r : ℕ) → Contains (from_to n k) r → (n ≤ r) × (r < n + k)
 of_range n zero r c = none_in r c
 of_range n (suc k) r (zero, l, e) = (omega arith, omega arith)
 of_range n (suc k) r (suc i, l, e) = let q = of_range (n + 1) k r (i, omega arith, e) in let a = q.0 in let b = q.1 in (omega arith, omega arith)
@@ -93,7 +93,7 @@ rising_once xs rise i j l h e =
     some t = (cc)
 
 -- a number is found in a list that has it
-found_in : (xs : List ℕ) (n : ℕ) → Contains xs n → list_any (nat_eq n) xs ≡ true
+pub found_in : (xs : List ℕ) (n : ℕ) → Contains xs n → list_any (nat_eq n) xs ≡ true
 found_in xs n c = let q = any_number xs c.0 c.1 in subst (λ (z : ℕ). list_any (nat_eq z) xs ≡ true) (at c) q
   where
     at : (c : Contains xs n) → slice_index xs c.0 ≡ n

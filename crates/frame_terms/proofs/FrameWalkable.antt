@@ -21,6 +21,7 @@ use Rattle.frame_spec.proofs.Rooted.{same_place, unrolling_is_rooted}
 use Rattle.frame_laws.specs.FramePrices.{line_of, lines_into, is_outward, goes_out}
 use Rattle.frame_terms.specs.PassiveFrames.{inputs_of, CanRead, CanReadLines, CanReadWrites, CanReadOwn, CanReadAction}
 use Rattle.frame_terms.specs.FrameLayers.{FrameUnrollingIsWalkable}
+use Rattle.frame_terms.proofs.CountedStores.{counts_gift, keeps_row}
 
 abbrev outs : List PointExit → ℕ
 outs xs = sum_by (λ x. bit (goes_out x)) xs
@@ -240,4 +241,6 @@ frame_unrolling_is_walkable f contracts k u un form fits laid readable own steps
           (let r = un.roots x c in subst (CanReadLines u) (sym r.2.assumes) (assumed f contracts k u readable r.0));
       exits = λ i x l c. (place i l).0.read x c;
       does = λ i l. (place i l).1;
+      gifts = λ i x l e. counts_gift f contracts k u un i x l e;
+      kept_stores = λ x own i list l e some. keeps_row f contracts k u un i list l e some;
     }

@@ -8,7 +8,7 @@ use Rattle.bilv_spec.proofs.PointsInGraph.{of_map}
 use Rattle.walk_spec.specs.Unrolled as tables
 use Rattle.walk_spec.specs.Unrolling as unrolling
 use Rattle.walk_spec.specs.Unrolling.{IsReadable}
-use Rattle.frame_spec.specs.FrameWalk.{PointExit, Root, UnrolledPoint, UnrolledProgram, point_at, LeadsLater}
+use Rattle.frame_spec.specs.FrameWalk.{PointExit, Root, Gift, StepsOver, UnrolledPoint, UnrolledProgram, point_at, LeadsLater}
 use Rattle.frame_spec.specs.FrameUnrolling.{CanBeTerms}
 use Rattle.frame_laws.specs.HeadlessLaws.{as_exit, as_action, entry_root, as_unrolled}
 use Rattle.frame_laws.specs.FramePrices.{line_of, goes_out}
@@ -121,6 +121,9 @@ module _ (u : tables.UnrolledProgram) where
   no_lines : (a : tables.Action) → CanReadAction v (as_action a)
   no_lines (tables.Executes list) = tt
 
+  no_gift : (a : tables.Action) (x : Gift) → as_action a ≡ StepsOver x → ⊥
+  no_gift (tables.Executes list) x e = cc
+
   walkable_as : unrolling.IsWalkable u → IsWalkable v
   walkable_as h = record {
     sized = record { enough = h.sized.enough; registers = h.sized.registers; flags = h.sized.flags };
@@ -147,6 +150,8 @@ module _ (u : tables.UnrolledProgram) where
         (let it = inside_back i x inside in
         exit_as it.0 (h.asserts i it.0 (below_as i l) it.1) e (subst (λ z. Contains (line_of z) e) (sym it.2) among));
     does = λ i l. subst (λ (z : UnrolledPoint). CanReadAction v z.does) (sym (place_same u i)) (no_lines (tables.point_at u i).does);
+    gifts = λ i x l e. absurd (no_gift (tables.point_at u i).does x (subst (λ (z : UnrolledPoint). z.does ≡ StepsOver x) (place_same u i) e));
+    kept_stores = λ x own. absurd (cc);
   }
     where
       not_in_none : {A : Type 0} (x : A) → Contains [] x → ⊥

@@ -1,3 +1,4 @@
+pub mod CountedStores
 pub mod FrameAsked
 pub mod FrameClauses
 pub mod FrameInputPrices
@@ -11,3 +12,4 @@ pub mod HeadlessNodes
 pub mod HeadlessWalkable
 pub mod PartValues
 pub mod PartStarts
+pub mod WrittenGifts

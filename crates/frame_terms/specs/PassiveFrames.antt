@@ -4,6 +4,7 @@ use Rattle.std.specs.Prelude.{ℕ, zero, suc, ◌≡◌, ◌≤◌, ◌<◌, ◌
 use Rattle.std.specs.List.{list_any}
 use Rattle.word_spec.specs.Words.{bit}
 use Rattle.word_spec.specs.State.{State}
+use Rattle.machine_spec.specs.Bil.{Statements}
 use Rattle.machine_spec.specs.Machine.{IsAtPlace}
 use Rattle.bilv_spec.specs.Notes.{Expr, NoteLine}
 use Rattle.bilv_spec.specs.Points.{line_price, bytes_loaded}
@@ -17,7 +18,7 @@ use Rattle.frame_spec.specs.Frames.{Content, Writes, content_of}
 use Rattle.frame_spec.specs.FrameQuestions.{Reading, IsReading, Question}
 use Rattle.frame_spec.specs.FrameWalk.{PointExit, Action, Executes, Arrives, StepsOver, Gift, Root, Own, UnrolledProgram, point_at, IsRooted, Held, held, swept}
 use Rattle.frame_spec.specs.FrameUnrolling.{CanBeTerms}
-use Rattle.frame_laws.specs.FramePrices.{line_of, goes_out, edges_of, root_lines, loads_of, stores_of, point_price, point_loads, point_bound, term_price, node_bound, root_bound}
+use Rattle.frame_laws.specs.FramePrices.{line_of, goes_out, edges_of, begin_lines, loads_of, stores_of, point_price, point_loads, point_bound, term_price, node_bound, root_bound}
 use Rattle.frame_laws.specs.RunOfFrame.{SweepEndsBy}
 
 -- The parts of a reading of a frame: the entry's is 0, the head's 1, and that of what is given at the contract point of a place is the place and 2.
@@ -109,11 +110,11 @@ pub record AreTermsWithin (u : UnrolledProgram) (heads : Bool) (room : Room) (no
   pub joins : term_joins nodes ≤ edges_of u + 2 * stores_of u
   pub few : length nodes ≤ room.nodes
 
--- the room of the terms of the points and of the roots; heads: the frame has a head
+-- the room of the terms of the points, and of where segments begin; heads: the frame has a head
 abbrev pub passive_room : UnrolledProgram → (heads : Bool) → Room
 passive_room u heads = record {
-  gates = point_price u + ((if heads then 1024 else 0) + sum_by line_price (root_lines u));
-  loads = point_loads u + sum_by bytes_loaded (root_lines u);
+  gates = point_price u + ((if heads then 1024 else 0) + sum_by line_price (begin_lines u));
+  loads = point_loads u + sum_by bytes_loaded (begin_lines u);
   nodes = point_bound u + root_bound u;
 }
 
@@ -242,7 +243,8 @@ CanReadAction u Arrives = Unit {0}
 CanReadAction u (StepsOver x) = CanReadLines u x.gives × CanReadWrites u x.writes
 
 -- What terms need of an unrolled frame, without the frame that it is of: a state of the right size, a root at place 0, exits that lead to later places, at
--- most one of them out of the frame at each point, points that can be made terms, notes that can be read, and addresses that are words.
+-- most one of them out of the frame at each point, points that can be made terms, notes that can be read, and addresses that are words. A contract step counts
+-- as a row, and as the stores of the bytes that it may write; and in the frame of a contract a row that may store has kept bytes, its own.
 pub record IsWalkable (u : UnrolledProgram) : Type 0 where
   pub sized : IsSized (inputs_of u)
   pub rooted : IsRooted u
@@ -259,3 +261,7 @@ pub record IsWalkable (u : UnrolledProgram) : Type 0 where
   pub assumes : (x : Root) → Contains u.roots x → CanReadLines u x.assumes
   pub exits : (i : ℕ) (x : PointExit) → i < length u.points → Contains (point_at u i).exits x → (e : Expr) → Contains (line_of x) e → CanRead u e
   pub does : (i : ℕ) → i < length u.points → CanReadAction u (point_at u i).does
+  pub gifts : (i : ℕ) (x : Gift) → i < length u.points → (point_at u i).does ≡ StepsOver x →
+      (64 ≤ (point_at u i).row) × (sum_by (λ w. w.count) x.writes ≤ (point_at u i).stores)
+  pub kept_stores : (x : Own) → u.own ≡ Some x → (i : ℕ) (list : Statements) → i < length u.points → (point_at u i).does ≡ Executes list →
+      1 ≤ (point_at u i).stores → 1 ≤ length u.kept

@@ -1,0 +1,2 @@
+pub mod LowMemory
+pub mod LowWalks
