@@ -22,3 +22,4 @@ pub mod FramedEnds
 pub mod FrameReplays
 pub mod SameFrames
 pub mod NoHeads
+pub mod OfLayout

@@ -8,3 +8,4 @@ pub mod TwoCalls
 pub mod Compared
 pub mod Invariants
 pub mod FrameReplayed
+pub mod LayoutContracts

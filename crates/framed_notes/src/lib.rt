@@ -5,4 +5,4 @@ mod dialects;
 mod lines;
 mod reading;
 
-pub use reading::{HeadedNotes, parse_headed};
+pub use reading::parse_headed;

@@ -1,9 +1,10 @@
 -- What the grammar reads, a machine can evaluate.
 use Rattle.std.proofs.Common.{◌≡◌, ℕ, zero, suc, ◌+◌, ◌<◌, ◌≤◌, ◌^◌, refl, ap, sym, ◌∙◌, subst, arith, List, [], ◌∷◌, ◌++◌, map, Option, Some, None, Bool, true, false, if◌then◌else◌, ◌&&◌, nat_le, bytes_eq, All, Contains, IsTrue, codes}
 use Rattle.std.specs.List.{list_all, list_any}
-use Rattle.std.specs.Prelude.{◌==◌, ◌||◌, filter, nat_eq}
+use Rattle.std.specs.Prelude.{◌*◌, ◌==◌, ◌||◌, filter, length, nat_eq, sum_by}
 use Rattle.std.proofs.lemmas.Bool.Decides.{nat_tests}
 use Rattle.std.proofs.lemmas.List.Elements.{All-nil, All-cons, All-head, All-tail, All-append, All-map}
+use Rattle.std.proofs.lemmas.List.Sums.{sum_by-cons}
 use Rattle.std.proofs.lemmas.Map.Views.{any-filter_same}
 use Rattle.word_spec.specs.RowFiles.{from_to}
 use Rattle.word_spec.specs.Memory.{Little}
@@ -12,7 +13,7 @@ use Rattle.frame_spec.specs.Frames.{Contract, Writes}
 use Rattle.notes_spec.specs.FrameNotes.{FrameNotes, IsFrameText, changes_at, contract_of, each_once, gives_at, is_flag, is_register, needs_at, places_of, writes_at}
 use Rattle.notes_spec.specs.Scopes.{Changed, ChangedFlag, ChangedRegister, Vocabulary, Scope, Mode, Strict, Lenient, Loose, Constant, begin, changed_by, changed_of, const_of, const_or, meaning, name_by, named, is_reserved, binding}
 use Rattle.word_spec.specs.Tokens.{Token, NameToken, NumberToken, SignToken, BadByte, BadText, tokens_of}
-use Rattle.notes_spec.specs.NotesGrammar.{load_words, IsGood, left_of, Parses, tighter, binary_of, not_of, number_of, name_of, memory_of, old_of, all_of, in_brackets, after, is_second, lines_of, Says, Nothing, RequireIs, EnsureIs, AssertIs, ConstIs, InvariantIs, NeedIs, GiveIs, ModifiesAre, WritesAre, AreChanged, IsAtAddress, IsRange, requires_of, ensures_of, asserts_of, IsSaid, AreLines, IsNotesText}
+use Rattle.notes_spec.specs.NotesGrammar.{load_words, IsGood, left_of, Parses, tighter, binary_of, not_of, number_of, name_of, memory_of, old_of, all_of, in_brackets, after, is_second, line_limit, lines_of, Says, Nothing, RequireIs, EnsureIs, AssertIs, ConstIs, InvariantIs, NeedIs, GiveIs, ModifiesAre, WritesAre, AreChanged, IsAtAddress, IsRange, requires_of, ensures_of, asserts_of, IsSaid, AreLines, IsNotesText}
 use Rattle.machine_spec.specs.RvMachine.{rv32}
 use Rattle.machine_spec.specs.Arm.{arm}
 use Rattle.word_spec.specs.Profiles.{V4}
@@ -253,6 +254,33 @@ if_append : {X : Type 0} (P : X → Type 0) (t : Bool) (xs ys : List X) → All 
 if_append P true xs ys here all = All-append P xs ys here all
 if_append P false xs ys here all = all
 
+-- one line writes at most 256 bytes, so that lines of which some write do so with 256 bytes each
+if_few : (t : Bool) (x : Writes) (xs : List Writes) (lines : ℕ) → x.count ≤ 256 → sum_by (λ w. w.count) xs ≤ 256 * lines →
+    sum_by (λ w. w.count) (if t then x ∷ xs else xs) ≤ 256 * suc lines
+if_few true x xs lines here few = omega (arith, sum_by-cons (λ (w : Writes). w.count) x xs)
+if_few false x xs lines here few = omega arith
+
+one_more : (n lines : ℕ) → n ≤ 256 * lines → n ≤ 256 * suc lines
+one_more n lines few = omega arith
+
+is_few : (n lines : ℕ) → n ≤ 256 * lines → lines ≤ 4097 → n < 2 ^ 64
+is_few n lines few short = omega arith
+
+as_many : (s : Scope) (texts : List (List ℕ)) (says : List Says) → AreLines s texts says → length texts ≡ length says
+as_many s [] [] p = refl
+as_many s [] (x ∷ says) p = absurd p
+as_many s (text ∷ texts) [] p = absurd p
+as_many s (text ∷ texts) (x ∷ says) p = ap suc (as_many (after s x) texts says p.1)
+
+within_limit : (second : Bool) (n : ℕ) → n ≤ line_limit second → n ≤ 4097
+within_limit true n less = less
+within_limit false n less = omega arith
+
+few_said : (v : Vocabulary) (text : List ℕ) (n : Notes) → (p : IsNotesText v text n) → length p.says ≤ 4097
+few_said v text n p =
+    subst (λ l. l ≤ 4097) (as_many (begin v (is_second (lines_of text))) (lines_of text) p.says p.lines)
+    (within_limit (is_second (lines_of text)) (length (lines_of text)) p.short)
+
 of_any : (P : ℕ → Type 0) → ((n : ℕ) → P n) → (l : List ℕ) → All P l
 of_any P each [] = All-nil P
 of_any P each (n ∷ l) = All-cons P n l (each n) (of_any P each l)
@@ -399,6 +427,12 @@ module _ (Claim : Expr → Type 0) (has_register has_flag : ℕ → Bool) (words
       if_cons IsWritten (b == a) (record { line = n; says = e; count = k }) (writes_at a (n + 1) says) p.0 (written a (n + 1) says p.1)
   written a n (s ∷ says) p = written a (n + 1) says p.1
 
+  few_written : (a n : ℕ) (says : List Says) → HoldsOfAll says → sum_by (λ w. w.count) (writes_at a n says) ≤ 256 * length says
+  few_written a n [] p = omega arith
+  few_written a n (WritesAre b e k ∷ says) p =
+      if_few (b == a) (record { line = n; says = e; count = k }) (writes_at a (n + 1) says) (length says) p.0.2 (few_written a (n + 1) says p.1)
+  few_written a n (s ∷ says) p = one_more (sum_by (λ w. w.count) (writes_at a (n + 1) says)) (length says) (few_written a (n + 1) says p.1)
+
   changes : (a : ℕ) (says : List Says) → HoldsOfAll says → All Changes (changes_at a says)
   changes a [] p = All-nil Changes
   changes a (ModifiesAre b cs ∷ says) p = if_append Changes (b == a) cs (changes_at a says) p.0 (changes a says p.1)
@@ -408,14 +442,16 @@ module _ (Claim : Expr → Type 0) (has_register has_flag : ℕ → Bool) (words
     needs : All (λ l. Claim l.says) c.needs
     gives : All (λ l. Claim l.says) c.gives
     writes : All IsWritten c.writes
+    few : sum_by (λ w. w.count) c.writes < 2 ^ 64
     registers : (r : ℕ) → list_any (nat_eq r) c.registers ≡ true → has_register r ≡ true
     flags : (f : ℕ) → list_any (nat_eq f) c.flags ≡ true → has_flag f ≡ true
 
-  claimed_contract : (says : List Says) → HoldsOfAll says → (a : ℕ) → ClaimedContract (contract_of says a)
-  claimed_contract says p a = record {
+  claimed_contract : (says : List Says) → length says ≤ 4097 → HoldsOfAll says → (a : ℕ) → ClaimedContract (contract_of says a)
+  claimed_contract says short p a = record {
     needs = needed a 1 says p;
     gives = given a 1 says p;
     writes = written a 1 says p;
+    few = is_few (sum_by (λ w. w.count) (writes_at a 1 says)) (length says) (few_written a 1 says p) short;
     registers = λ r is. register_among has_register has_flag r (changes_at a says) (changes a says p)
         (passes (λ q. list_any (is_register q) (changes_at a says)) (from_to 0 32) r is);
     flags = λ f is. flag_among has_register has_flag f (changes_at a says) (changes a says p)
@@ -444,7 +480,7 @@ module _ (Claim : Expr → Type 0) (has_register has_flag : ℕ → Bool) (words
       let says = p.is_notes.says in
       subst (All ClaimedContract) p.contracts_are
       (All-map ClaimedContract (contract_of says) (each_once (places_of says))
-      (of_any (λ a. ClaimedContract (contract_of says a)) (claimed_contract says (held text n.notes p.is_notes)) (each_once (places_of says))))
+      (of_any (λ a. ClaimedContract (contract_of says a)) (claimed_contract says (few_said words text n.notes p.is_notes) (held text n.notes p.is_notes)) (each_once (places_of says))))
 
 -- what the names of a scope stand for, where they are those of a layout
 scope_reads : (layout : Layout) (s : Scope) → s.names ≡ layout_names layout → NamesRead (layout_registers layout) (layout_flags layout) s.names
@@ -498,4 +534,4 @@ module _ (layout : Layout) (dialect : Dialect) (text : List ℕ) where
   contracts_over n p i d less =
       let c = claimed_contracts (IsOver (layout_registers layout) (layout_flags layout)) (layout_registers layout) (layout_flags layout)
       (layout_vocabulary layout dialect) (over_one layout) (change_one layout) text n p i d less in
-      record { needs = c.needs; gives = c.gives; writes = c.writes; registers = c.registers; flags = c.flags }
+      record { needs = c.needs; gives = c.gives; writes = c.writes; few = c.few; registers = c.registers; flags = c.flags }

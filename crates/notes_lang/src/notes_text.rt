@@ -153,7 +153,7 @@ fn read_lines(
 /// The notes that a text says, with its invariants and contracts, for the machine of a layout, in a dialect. `Fault` tells the first line that is refused, with
 /// the first of its faults; where each line is good but none names the function, it is the line behind the last. A text whose first line that says something is
 /// `notes 2` is of version 2. What the expressions of the notes and of their contracts read, and what the contracts change, the machine has; the numbers of
-/// expressions have 32 bits, and a line of a contract writes 1 to 256 bytes.
+/// expressions have 32 bits; a line of a contract writes 1 to 256 bytes, and all lines of one contract together write fewer than 2 ^ 64.
 pub fn parse(
     alloc: Global,
     bytes: &[u8],
