@@ -1,6 +1,6 @@
 -- Nodes whose assignment of a flag is live, and a graph that keeps those.
-use Rattle.std.proofs.Common.{◌≡◌, ℕ, suc, zero, ◌≤◌, ◌<◌, ◌+◌, List, [], ◌∷◌, ◌++◌, Bool, true, false, length, get_or, take, sym, ap, ◌∙◌, subst, arith, inl, inr}
-use Rattle.std.specs.Prelude.{◌↔◌, Contains}
+use Rattle.std.proofs.Common.{◌≡◌, refl, ℕ, suc, zero, ◌≤◌, ◌<◌, ◌+◌, List, [], ◌∷◌, ◌++◌, Bool, true, false, length, get_or, take, sym, ap, ◌∙◌, subst, arith, inl, inr}
+use Rattle.std.specs.Prelude.{◌↔◌, ◌⊎◌, ◌||◌, All, Contains}
 use Rattle.std.specs.List.{AllZip}
 use Rattle.std.specs.List.Sorted.{IsPermutation}
 use Rattle.std.proofs.lemmas.Bool.{cases_lt}
@@ -18,7 +18,7 @@ use Rattle.flag_live.specs.Reachable.{Reaches, IsMarked}
 use Rattle.flag_live.specs.Vertices.{IsNodeAt, IsEdge, IsStart}
 use Rattle.graph_nodes.specs.Places.{AreRising}
 use Rattle.flag_live.specs.Meanings.{AreReads, LeadsOn, IsOn, on_successor, on_exit, IsLiveNode, AreLiveBelow, AreLive}
-use Rattle.flag_live.specs.Keeps.{IsSetOf}
+use Rattle.flag_live.specs.Keeps.{IsKeptBesides, IsKeptWith, IsSetOf}
 use Rattle.flag_live.proofs.Located.{node_is}
 use Rattle.flag_live.proofs.Readings.{reads_are, live_is}
 
@@ -135,3 +135,41 @@ stay_live p g new n z c v same kept three two one none k d w =
       exact = subst (λ (a : ℕ). (f : ℕ) → f < 4 → (has_flag (get_or new k d).keeps f ≡ true) ↔ IsLive p f a) (sym one_same.at)
           (flag_live p (get_or new k d).keeps old.at _ _ _ _ set (three.each k old at) (two.each k old at) (one.each k old at) (none.each k old at));
     }
+
+-- assignments that stay besides others
+pub kept_all : (always : ℕ) (old new : List Node) (i : ℕ) → length old ≤ i → AllZip (IsKeptBesides always) (take i old) new → AllZip (IsKeptBesides always) old new
+kept_all always old new i all kept = subst (λ (xs : List Node). AllZip (IsKeptBesides always) xs new) (take_all i old all) kept
+
+or_left : (a b : Bool) → a ≡ true → (a || b) ≡ true
+or_left true b h = refl
+or_left false b h = absurd (cc)
+
+or_right : (a b : Bool) → b ≡ true → (a || b) ≡ true
+or_right true b h = refl
+or_right false b h = h
+
+or_one : (a b : Bool) → (a || b) ≡ true → (a ≡ true) ⊎ (b ≡ true)
+or_one true b h = inl refl
+or_one false b h = inr h
+
+one_with : (p : Program) (always : ℕ) (old new : Node) → IsSameNode old new → IsKeptBesides always old new → IsKeptLive p old → IsKeptWith p always new
+one_with p always old new same kept live = record {
+  live = λ f few h.
+      kept.exact f few ∙ or_left (has_flag old.keeps f) (has_flag always f) ((live.exact f few).1 (subst (λ (a : ℕ). IsLive p f a) same.at h));
+  besides = λ f few h. kept.exact f few ∙ or_right (has_flag old.keeps f) (has_flag always f) h;
+  only = λ f few h. elim (or_one (has_flag old.keeps f) (has_flag always f) (sym (kept.exact f few) ∙ h)) as
+      (λ _. IsLive p f new.at ⊎ (has_flag always f ≡ true)) [
+        | inl k ↦ inl (subst (λ (a : ℕ). IsLive p f a) (sym same.at) ((live.exact f few).0 k))
+        | inr k ↦ inr k
+      ];
+}
+
+-- so in a graph in which the live ones stay
+pub kept_with : (p : Program) (always : ℕ) (old new : List Node) → AllZip IsSameNode old new → AllZip (IsKeptBesides always) old new →
+    All (λ n. IsKeptLive p n) old → All (λ n. IsKeptWith p always n) new
+kept_with p always [] [] same kept live i d l = absurd (omega (arith, l))
+kept_with p always [] (y ∷ new) same kept live i d l = absurd same
+kept_with p always (x ∷ old) [] same kept live i d l = absurd same
+kept_with p always (x ∷ old) (y ∷ new) same kept live zero d l = one_with p always x y same.0 kept.0 (live 0 x (omega arith))
+kept_with p always (x ∷ old) (y ∷ new) same kept live (suc i) d l =
+    kept_with p always old new same.1 kept.1 (λ j e w. live (suc j) e (omega arith)) i d (omega arith)

@@ -6,4 +6,4 @@ mod paths;
 mod trimmed;
 mod walk;
 
-pub use trimmed::trim;
+pub use trimmed::{keep, trim};

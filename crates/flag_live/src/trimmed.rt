@@ -1,10 +1,11 @@
 //! A graph with the flag assignments that are live.
+ghost use Rattle.std.specs.List.{AllZip};
 ghost use Rattle.std.specs.Prelude.{◌≡◌, ◌<◌, ◌||◌, ℕ, Bool, true, false, IfOk, slice_index_or, if◌then◌else◌};
 ghost use Rattle.bilv_spec.specs.Run.{Program};
 ghost use Rattle.graph_nodes.specs.Graphs as graphs;
 ghost use Rattle.graph_nodes.specs.Graphs.{IsFlagSet, IsGraph, IsSameNode, IsSameGraph, LiveStay};
 ghost use Rattle.flag_live.specs.Asked.{ensuring, unasked};
-ghost use Rattle.flag_live.specs.Keeps.{IsSetOf};
+ghost use Rattle.flag_live.specs.Keeps.{IsKeptBesides, IsSetOf, LiveStayWith};
 
 use crate::live::{is_marked, lives};
 use graph_nodes::{Graph, Node, Successor, has_flag};
@@ -121,5 +122,29 @@ pub fn trim(alloc: Global, graph: &Graph, out: u8) -> Result<Graph, AllocError>
         narrow: graph.narrow,
         nodes,
         ensured,
+    })
+}
+
+/// A copy of a graph in which the assignments of the flags of the set `always`, N 8, Z 4, C 2 and V 1, stay besides those that stay in the graph.
+///
+/// # Errors
+///
+/// Out of memory.
+pub fn keep(alloc: Global, graph: &Graph, always: u8) -> Result<Graph, AllocError>
+    ensures same { IfOk result (λ t. IsSameGraph graph.now t) }
+    ensures kept { IfOk result (λ t. AllZip (IsKeptBesides always) graph.now.nodes.items t.nodes.items) }
+    ensures graph { (p : Program) → IsGraph p graph.now → IfOk result (λ t. IsGraph p t) }
+    ensures live { (p : Program) → LiveStay p graph.now → IfOk result (λ t. LiveStayWith p always t) }
+{
+    let mut nodes = Vec::new(alloc);
+    for i in 0..graph.nodes.len() {
+        let node = &graph.nodes[i];
+        let keeping = with_keeps(alloc, node, joined(node.keeps, always))?;
+        nodes.push(keeping)?;
+    }
+    Ok(Graph {
+        narrow: graph.narrow,
+        nodes,
+        ensured: graph.ensured,
     })
 }

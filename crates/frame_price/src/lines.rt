@@ -1,22 +1,23 @@
 //! What the lines cost that are evaluated at points, at heads and at roots.
-ghost use Rattle.std.specs.Prelude.{◌≡◌, ◌<◌, ℕ, Contains, length, map, nat_eq, slice_index_or};
+ghost use Rattle.std.specs.Prelude.{◌≡◌, ◌<◌, ◌++◌, ℕ, Contains, length, map, nat_eq, slice_index_or};
 ghost use Rattle.std.specs.List.{flat_map, list_any};
-ghost use Rattle.frame_laws.specs.FramePrices.{line_of, lines_into};
+ghost use Rattle.frame_laws.specs.FramePrices.{exit_lines, line_of, lines_into};
 ghost use Rattle.frame_spec.specs.FramePoints.{says_of};
+ghost use Rattle.notes_value.specs.FrameViews.{contract_of, writes_of};
 ghost use Rattle.notes_value.specs.NoteViews.{assert_of};
 ghost use Rattle.notes_value.specs.Views.{expr_of};
 ghost use Rattle.question_form.specs.Forms.{AreBounds, IsAimFormed, IsFormed};
-ghost use Rattle.question_form.specs.FrameViews.{aim_of, checks_between, edge_of, root_of};
+ghost use Rattle.question_form.specs.FrameViews.{aim_of, checks_between, edge_of, frame_unrolled_of, own_contract, root_of};
 ghost use Rattle.question_form.specs.declared.unrolled.Edge.{Edge as FormedEdge};
 ghost use Rattle.question_form.specs.declared.unrolled.Root.{Root as FormedRoot};
 ghost use Rattle.frame_price.specs.Evaluated as evaluated;
-ghost use Rattle.frame_price.specs.Evaluated.{check_of, evaluated_lines, lines_if};
+ghost use Rattle.frame_price.specs.Evaluated.{check_of, evaluated_lines, lines_if, own_lines};
 ghost use Rattle.unroller.specs.LineCosts.{AreLineCosts};
 
-use notes_value::Assert;
+use notes_value::{Assert, Contract, Writes};
 use question_form::{Aim, Edge, Root, Unrolled};
 use unroller::costs::{LineCost, line_cost};
-use unroller::lines::{nothing, sum};
+use unroller::lines::{lines_cost, nothing, sum};
 
 /// Which of the assert lines of an address are evaluated.
 #[derive(Clone, Copy)]
@@ -119,4 +120,44 @@ pub fn roots_cost(roots: &[Root], u: &Unrolled) -> LineCost
         total = sum(total, part_cost(u, root.asserts, Chosen::Invariants));
     }
     total
+}
+
+/// What lines cost that say which bytes may be written.
+pub fn writes_cost(writes: &[Writes]) -> LineCost
+    ensures { AreLineCosts result (map (λ w. w.says) (map writes_of writes.now)) }
+{
+    let mut total = nothing();
+    for line in writes {
+        total = sum(total, line_cost(&line.says));
+    }
+    total
+}
+
+/// What the lines of a contract cost that its step evaluates behind what the contract needs.
+pub fn step_cost(contract: &Contract) -> LineCost
+    ensures { AreLineCosts result (says_of (contract_of contract.now).gives ++ map (λ w. w.says) (contract_of contract.now).writes) }
+{
+    let given = lines_cost(&contract.gives);
+    let written = writes_cost(&contract.writes);
+    sum(given, written)
+}
+
+/// What the lines cost that are judged where a frame is left.
+pub fn exit_cost(u: &Unrolled) -> LineCost
+    ensures { AreLineCosts result (exit_lines (frame_unrolled_of u.now)) }
+{
+    match u.own {
+        None => lines_cost(&u.notes.ensured),
+        Some(contract) => lines_cost(&contract.gives),
+    }
+}
+
+/// What the lines cost that say which bytes the frame's own contract may write, if it has one.
+pub fn own_writes_cost(u: &Unrolled) -> LineCost
+    ensures { AreLineCosts result (own_lines (own_contract u.now)) }
+{
+    match u.own {
+        None => nothing(),
+        Some(contract) => writes_cost(&contract.writes),
+    }
 }

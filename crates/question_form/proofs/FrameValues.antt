@@ -1,6 +1,6 @@
 -- The unrolled frame that the value of a program stands for.
 use Rattle.std.proofs.Common.{◌≡◌, refl, ap, sym, ◌∙◌, subst, arith, ℕ, zero, suc, ◌+◌, ◌-◌, ◌<◌, ◌≤◌, Bool, true, false, List, [], ◌∷◌, ◌++◌, length, drop, take, Option, Some, None}
-use Rattle.std.specs.Prelude.{Contains, map, filter, nat_eq, slice_index_or, slice_range}
+use Rattle.std.specs.Prelude.{Contains, map, filter, nat_eq, option_map, slice_index_or, slice_range}
 use Rattle.std.specs.List.{list_any}
 use Rattle.std.specs.Global.{Vec}
 use Rattle.bilv_spec.specs.Notes.{Assert}
@@ -10,6 +10,8 @@ use Rattle.frame_spec.specs.FrameWalk.{Check, PointExit, FalseCheck, Raising, Wr
 use Rattle.frame_laws.specs.HeadlessLaws.{as_exit, as_action, as_place, entry_root, as_unrolled}
 use Rattle.bil_ast.specs.declared.statements.Stmt.{Stmt}
 use Rattle.notes_value.specs.NoteViews.{notes_of}
+use Rattle.notes_value.specs.FrameViews.{contract_of}
+use Rattle.frame_spec.specs.FrameUnrolling.{own_of, outside_exit}
 use Rattle.program_points.specs.Listed.{anchor_of}
 use Rattle.program_points.specs.Tables.{stacks_of}
 use Rattle.question_form.specs.declared.unrolled.Aim as declared
@@ -23,7 +25,7 @@ use Rattle.question_form.specs.declared.unrolled.Root as roots
 use Rattle.question_form.specs.declared.unrolled.Unrolled.{Unrolled}
 use Rattle.question_form.specs.Views as views
 use Rattle.question_form.specs.Views.{code_of, edges_from, unrolled_of}
-use Rattle.question_form.specs.FrameViews.{check_at, checks_between, is_judged, is_invariant, aim_of, edge_of, no_root, anchor_at, row_exits, action_of, exits_of, point_by, point_of, points_of, root_of, frame_unrolled_of, is_headless, IsHeadless, HeadlessValues}
+use Rattle.question_form.specs.FrameViews.{check_at, checks_between, is_judged, is_invariant, aim_of, edge_of, no_root, anchor_at, row_exits, action_of, is_contract, judged_at, exits_of, own_contract, point_by, point_of, points_of, root_of, frame_unrolled_of, is_headless, IsHeadless, HeadlessValues}
 
 within_take : {A : Type 0} (n : ℕ) (xs : List A) (x : A) → Contains (take n xs) x → Contains xs x
 within_take zero xs x (i, l, e) = absurd (omega (arith, l))
@@ -74,32 +76,37 @@ module _ (u : Unrolled) (h : IsHeadless u) where
       ap (λ l. as_exit (views.edge_of e) ∷ l) (edges_with es (λ x t. k x (suc t.0, omega (arith, t.1), t.2)))
       ∙ ap (λ y. y ∷ map (edge_of u) es) (edge_with e.falls e.jumps e.to e.aim (k e (zero, omega arith, refl)))
 
+  not_outside : outside_exit (own_contract u) ≡ []
+  not_outside = ap (λ o. outside_exit (option_map (λ x. contract_of x.now) o)) h.own
+
   row_with : (fetchable : Bool) (list : Option (Vec Stmt)) (es : List Edge) → ((e : Edge) → Contains es e → is_headless e.aim) →
       map as_exit (views.row_exits fetchable list es) ≡ row_exits u fetchable list es
   row_with fetchable None es k = refl
-  row_with fetchable (Some list) es k = ap (λ l. Raising ∷ WritingKept ∷ Unaligned ∷ l) (edges_with es k)
+  row_with fetchable (Some list) es k =
+      ap (λ l. Raising ∷ WritingKept ∷ Unaligned ∷ l) (edges_with es k)
+      ∙ ap (λ o. Raising ∷ WritingKept ∷ (o ++ Unaligned ∷ map (edge_of u) es)) (sym not_outside)
 
-  action_with : (list : Option (Vec Stmt)) → as_action (views.action_of list) ≡ action_of deeds.Row list
-  action_with None = refl
-  action_with (Some list) = refl
+  action_with : (list : Option (Vec Stmt)) (stack : List ℕ) → as_action (views.action_of list) ≡ action_of u deeds.Row list stack
+  action_with None stack = refl
+  action_with (Some list) stack = refl
 
   -- a point whose anchor and deed are given
   abbrev by : Point → Code → List Edge → Anchor → Deed → UnrolledPoint
   by q c es anchor deed = record {
-    point = record { anchor = anchor; turns = q.turns; contract = false; stack = (views.point_by u q c es).point.stack; at = c.at };
+    point = record { anchor = anchor; turns = q.turns; contract = is_contract deed; stack = (views.point_by u q c es).point.stack; at = c.at };
     length = c.length;
-    does = action_of deed c.list;
+    does = action_of u deed c.list (views.point_by u q c es).point.stack;
     draws = c.draws;
     row = c.row;
     loads = c.loads;
     stores = c.stores;
-    exits = map FalseCheck (filter (is_judged anchor) (checks_between u c.asserts)) ++ exits_of u deed c es;
+    exits = judged_at u deed anchor c ++ exits_of u deed c es;
   }
 
   point_with : (q : Point) (c : Code) (es : List Edge) → q.deed ≡ deeds.Row → ((e : Edge) → Contains es e → is_headless e.aim) →
       as_place (views.point_by u q c es) ≡ point_by u q c es
   point_with q c es deed k =
-      ap (λ a. record (by q c es AtEntry deeds.Row) { does = a; exits = map as_exit (views.point_by u q c es).exits }) (action_with c.list)
+      ap (λ a. record (by q c es AtEntry deeds.Row) { does = a; exits = map as_exit (views.point_by u q c es).exits }) (action_with c.list (views.point_by u q c es).point.stack)
       ∙ ap (λ x. record (by q c es AtEntry deeds.Row) { exits = x })
       (exits_with (slice_range u.asserts.items c.asserts.0 c.asserts.1) (views.row_exits c.fetchable c.list es) (row_exits u c.fetchable c.list es)
       (row_with c.fetchable c.list es k))
@@ -119,4 +126,5 @@ module _ (u : Unrolled) (h : IsHeadless u) where
 pub headless_values : HeadlessValues
 headless_values u h = sym (
     ap (λ l. record (as_unrolled (unrolled_of u)) { roots = l }) (roots_with u h)
+    ∙ ap (λ o. record (as_unrolled (unrolled_of u)) { roots = map (root_of u) u.roots.items; own = own_of (option_map (λ x. contract_of x.now) o) }) (sym h.own)
     ∙ ap (λ l. record (frame_unrolled_of u) { points = l }) (points_with u h u.points.items h.deeds))

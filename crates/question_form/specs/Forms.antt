@@ -1,8 +1,9 @@
 -- The form of an unrolled program as a value.
-use Rattle.std.specs.Prelude.{ℕ, ◌≤◌, ◌<◌, ◌+◌, length, drop, slice_index_or, Contains}
+use Rattle.std.specs.Prelude.{ℕ, ◌≡◌, ◌≤◌, ◌<◌, ◌+◌, length, drop, slice_index_or, Contains}
 use Rattle.question_form.specs.declared.unrolled.Aim.{Aim}
 use Rattle.question_form.specs.declared.unrolled.Aim.TheVariants.{IntoHead}
 use Rattle.question_form.specs.declared.unrolled.Code.{Code}
+use Rattle.question_form.specs.declared.unrolled.Deed.TheVariants.{Contract}
 use Rattle.question_form.specs.declared.unrolled.Edge.{Edge}
 use Rattle.question_form.specs.declared.unrolled.Point.{Point}
 use Rattle.question_form.specs.declared.unrolled.Root.{Root}
@@ -33,3 +34,7 @@ pub record AreRootsFormed (u : Unrolled) : Type 0 where
   pub points : (q : Point) → Contains u.points.items q → q.root < length u.roots.items
   pub places : (x : Root) → Contains u.roots.items x → (x.place < length u.points.items) × AreBounds u x.asserts
   pub edges : (e : Edge) → Contains u.edges.items e → IsAimFormed u e.aim
+
+-- Each contract step is of a contract that is stepped over, on a stack that is not empty.
+pub record AreStepsFormed (u : Unrolled) : Type 0 where
+  pub contracts : (q : Point) (n : ℕ) → Contains u.points.items q → q.deed ≡ Contract n → (n < length u.stepped.now) × (1 ≤ q.stack)

@@ -1,5 +1,5 @@
 -- The unrolled frame of the definitions that a value stands for.
-use Rattle.std.specs.Prelude.{ℕ, ◌≡◌, ◌∷◌, ◌++◌, ◌&&◌, Bool, false, not, nat_eq, List, [], Option, Some, None, Contains, length, map, filter, slice_index_or, slice_range}
+use Rattle.std.specs.Prelude.{ℕ, ◌≡◌, ◌∷◌, ◌++◌, ◌&&◌, Bool, true, false, not, nat_eq, List, [], Option, Some, None, Contains, length, map, filter, option_map, slice_index_or, slice_range}
 use Rattle.std.specs.List.{list_any}
 use Rattle.std.specs.Global.{Vec}
 use Rattle.word_spec.specs.Memory.{endian}
@@ -7,15 +7,18 @@ use Rattle.word_spec.specs.RowFiles.{from_to}
 use Rattle.bilv_spec.specs.Notes.{NoteLine}
 use Rattle.machine_spec.specs.Bil.{Empty}
 use Rattle.walk_spec.specs.Unrolling.{stop_event}
+use Rattle.frame_spec.specs.Frames as frames
 use Rattle.frame_spec.specs.Frames.{OfStep}
 use Rattle.frame_spec.specs.FramePoints.{Anchor, is_entry}
 use Rattle.frame_spec.specs.FrameWalk as walk
-use Rattle.frame_spec.specs.FrameWalk.{Check, Aim, PointExit, FalseCheck, Always, Raising, WritingKept, Unaligned, Along, ToEvent, Cutting, Action, Executes, Arrives, UnrolledPoint, UnrolledProgram}
+use Rattle.frame_spec.specs.FrameWalk.{Check, Aim, PointExit, FalseCheck, FalseNeed, Always, Raising, WritingKept, WritingOutside, NotGiven, Unaligned, Along, ToEvent, Cutting, Gift, Action, Executes, Arrives, StepsOver, UnrolledPoint, UnrolledProgram}
+use Rattle.frame_spec.specs.FrameUnrolling.{own_of, outside_exit}
 use Rattle.frame_laws.specs.HeadlessLaws.{as_unrolled}
 use Rattle.bil_ast.specs.declared.statements.Stmt.{Stmt}
 use Rattle.bil_ast.specs.Views.{statements}
 use Rattle.start_value.specs.Starts.{layout_of}
 use Rattle.notes_value.specs.NoteViews.{notes_of}
+use Rattle.notes_value.specs.FrameViews.{contract_of}
 use Rattle.known_bytes.specs.Runs.{run_of}
 use Rattle.program_points.specs.Listed.{anchor_of}
 use Rattle.program_points.specs.Tables.{stack_at, stacks_of}
@@ -66,37 +69,77 @@ no_root = record { place = 0; head = None; asserts = (0, 0) }
 abbrev pub anchor_at : Unrolled → ℕ → Anchor
 anchor_at u n = anchor_of (stacks_of u.frames.items) (slice_index_or u.roots.items n no_root).head
 
+-- the contract whose frame it is
+abbrev pub own_contract : Unrolled → Option frames.Contract
+own_contract u = option_map (λ x. contract_of x.now) u.own
+
+-- no contract
+abbrev pub no_contract : frames.Contract
+no_contract = record { at = 0; needs = []; gives = []; writes = []; registers = []; flags = [] }
+
+-- the contract of a number among those that are stepped over
+abbrev pub stepped_at : Unrolled → ℕ → frames.Contract
+stepped_at u n = slice_index_or (map contract_of u.stepped.now) n no_contract
+
+-- the top of a stack
+abbrev pub top_of : List ℕ → ℕ
+top_of [] = 0
+top_of (to ∷ below) = to
+
+-- what a contract step does, with a return address
+abbrev pub gift_of : frames.Contract → (to : ℕ) → Gift
+gift_of x to = record { to = to; writes = x.writes; gives = x.gives; registers = x.registers; flags = x.flags }
+
 -- the exits behind those of the assert lines where the row of the address is executed: an event where there is none, and else those of the row, its edges last
 abbrev pub row_exits : Unrolled → (fetchable : Bool) → Option (Vec Stmt) → List Edge → List PointExit
 row_exits u fetchable None edges = Always (ToEvent (OfStep (stop_event fetchable))) ∷ []
-row_exits u fetchable (Some list) edges = Raising ∷ WritingKept ∷ Unaligned ∷ map (edge_of u) edges
+row_exits u fetchable (Some list) edges = Raising ∷ WritingKept ∷ (outside_exit (own_contract u) ++ Unaligned ∷ map (edge_of u) edges)
+
+-- the exits of a contract step: what it needs, the bytes that it writes, what it is given, and its edge
+abbrev pub contract_exits : Unrolled → frames.Contract → List Edge → List PointExit
+contract_exits u x edges =
+    map (λ l. FalseNeed l.line l.says) x.needs ++ WritingKept ∷ (outside_exit (own_contract u) ++ NotGiven ∷ map (edge_of u) edges)
 
 -- what is done at an address
 abbrev pub list_of : Option (Vec Stmt) → Action
 list_of None = Executes Empty
 list_of (Some list) = Executes (statements list.items)
 
--- what is done at a point
-abbrev pub action_of : Deed → Option (Vec Stmt) → Action
-action_of deeds.Row list = list_of list
-action_of deeds.Arrival list = Arrives
+-- what is done at a point, with its stack
+abbrev pub action_of : Unrolled → Deed → Option (Vec Stmt) → (stack : List ℕ) → Action
+action_of u deeds.Row list stack = list_of list
+action_of u deeds.Arrival list stack = Arrives
+action_of u (deeds.Contract n) list stack = StepsOver (gift_of (stepped_at u n) (top_of stack))
+
+-- a contract step is made there
+abbrev pub is_contract : Deed → Bool
+is_contract deeds.Row = false
+is_contract deeds.Arrival = false
+is_contract (deeds.Contract n) = true
+
+-- the exits by the assert lines that are judged at a point of an anchor; none is where a contract step is made
+abbrev pub judged_at : Unrolled → Deed → Anchor → Code → List PointExit
+judged_at u deeds.Row anchor c = map FalseCheck (filter (is_judged anchor) (checks_between u c.asserts))
+judged_at u deeds.Arrival anchor c = map FalseCheck (filter (is_judged anchor) (checks_between u c.asserts))
+judged_at u (deeds.Contract n) anchor c = []
 
 -- the exits behind those of the assert lines
 abbrev pub exits_of : Unrolled → Deed → Code → List Edge → List PointExit
 exits_of u deeds.Row c edges = row_exits u c.fetchable c.list edges
 exits_of u deeds.Arrival c edges = Always Cutting ∷ []
+exits_of u (deeds.Contract n) c edges = contract_exits u (stepped_at u n) edges
 
 -- the point of a code, with its edges
 abbrev pub point_by : Unrolled → Point → Code → List Edge → UnrolledPoint
 point_by u q c edges = record {
-  point = record { anchor = anchor_at u q.root; turns = q.turns; contract = false; stack = stack_at u.frames.items q.stack; at = c.at };
+  point = record { anchor = anchor_at u q.root; turns = q.turns; contract = is_contract q.deed; stack = stack_at u.frames.items q.stack; at = c.at };
   length = c.length;
-  does = action_of q.deed c.list;
+  does = action_of u q.deed c.list (stack_at u.frames.items q.stack);
   draws = c.draws;
   row = c.row;
   loads = c.loads;
   stores = c.stores;
-  exits = map FalseCheck (filter (is_judged (anchor_at u q.root)) (checks_between u c.asserts)) ++ exits_of u q.deed c edges;
+  exits = judged_at u q.deed (anchor_at u q.root) c ++ exits_of u q.deed c edges;
 }
 
 -- a point, before others
@@ -127,7 +170,7 @@ frame_unrolled_of u = record {
   entry = u.entry;
   requires = (notes_of u.notes.now).requires;
   ensures = (notes_of u.notes.now).ensures;
-  own = None;
+  own = own_of (own_contract u);
   kept = map kept_of u.kept.now;
   known = map run_of u.known.items;
   literals = u.literals.items;
@@ -144,6 +187,7 @@ is_headless aim = Unit {0}
 pub record IsHeadless (u : Unrolled) : Type 0 where
   pub invariants : u.invariants.now ≡ []
   pub heads : u.heads ≡ false
+  pub own : u.own ≡ None
   pub roots : u.roots.items ≡ no_root ∷ []
   pub deeds : (q : Point) → Contains u.points.items q → q.deed ≡ deeds.Row
   pub edges : (e : Edge) → Contains u.edges.items e → is_headless e.aim

@@ -1,7 +1,7 @@
 //! The unrolled program.
 use bil_ast::Stmt;
 use known_bytes::Known;
-use notes_value::Notes;
+use notes_value::{Contract, Notes};
 use program_points::Frame;
 use start_value::Layout;
 
@@ -59,6 +59,9 @@ pub enum Deed {
     Row,
     /// The entry's segment ends, since the entry is a head: the assert lines of the address are judged, and nothing is done.
     Arrival,
+    /// The call of a contract's function is stepped over, by the contract's number among those that are stepped over: what the contract needs is judged, and
+    /// what it may change is taken from what is given.
+    Contract(usize),
 }
 
 /// A point: the number of the root of its segment, how many backward transfers were made, its stack by number, and the place of its code. Its edges begin at a
@@ -82,8 +85,8 @@ pub struct Root {
     pub asserts: (usize, usize),
 }
 
-/// An unrolled program, or an unrolled frame, which is cut at its heads: its points in an order in which every edge to a point leads to a later one of the same
-/// root, the entry's first, with what is done at each and how it is left.
+/// An unrolled program, or an unrolled frame, which is cut at its heads and steps over the calls of some contracts: its points in an order in which every edge to
+/// a point leads to a later one of the same root, the entry's first, with what is done at each and how it is left.
 #[derive(Drop)]
 pub struct Unrolled<'a> {
     /// The form of states.
@@ -101,6 +104,11 @@ pub struct Unrolled<'a> {
     pub invariants: &'a [u32],
     /// There is a head: an invariant is at some address.
     pub heads: bool,
+    /// The contracts that calls step over, in the order of their ranks.
+    pub stepped: &'a [Contract],
+    /// The contract whose frame it is, which is judged where it is left; none in the frame of the function. The notes are the frame's: of a contract's frame they
+    /// require what the contract needs, and ensure nothing.
+    pub own: Option<&'a Contract>,
     /// The address and the place of each assert line, by rising addresses, and of one address in their order.
     pub asserts: Vec<(u32, usize)>,
     /// The runs of kept addresses, rising, both ends included.

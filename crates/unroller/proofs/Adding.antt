@@ -13,15 +13,14 @@ use Rattle.graph_nodes.specs.declared.nodes.Graph.{Graph}
 use Rattle.program_points.specs.declared.values.Frame.{Frame}
 use Rattle.program_points.specs.declared.values.End.{End}
 use Rattle.program_points.specs.declared.values.FramePoint.{FramePoint}
-use Rattle.program_points.specs.Tables.{frame, frame_at, jumps_of, listed, IsCalled}
+use Rattle.program_points.specs.Tables.{frame, frame_at, listed, IsCalled}
 use Rattle.program_points.proofs.Lists.{regroup, take_whole, keeps, or_left, or_last, grown as push_length, nothing_more}
+use Rattle.question_form.specs.declared.unrolled.Deed.{Deed}
+use Rattle.question_form.specs.declared.unrolled.Deed.TheVariants.{Row}
 use Rattle.question_form.specs.declared.unrolled.Edge.{Edge}
 use Rattle.unroller.specs.Keys.{address_of, stack_of, target_key}
-use Rattle.unroller.specs.Led.{is_same, is_among, is_both, next_of, exits_by, IsLedTo, AreAddedTo, HasLed, IsCalledBy, AreCalled, AreLeft}
-
-map_append : {X Y : Type 0} (f : X → Y) (us vs : List X) → map f (us ++ vs) ≡ map f us ++ map f vs
-map_append f [] vs = refl
-map_append f (u ∷ us) vs = ap (λ l. f u ∷ l) (map_append f us vs)
+use Rattle.unroller.proofs.Ordered.{map_append}
+use Rattle.unroller.specs.Led.{is_same, is_among, is_both, exits_by, IsLedTo, AreAddedTo, HasLed, HasRowLed, IsCalledBy, IsNoneCalled, AreCalled, AreLeft}
 
 -- the numbers of some ends and of one more, if there is one
 pub map_listed : (f : End → ℕ) (jumps : List End) (i : ℕ) (next o : Option End) (found grown : List ℕ) → length jumps ≤ i → found ≡ map f (take i jumps) →
@@ -92,13 +91,6 @@ pushed_few old rest f n le only =
       | inr e ↦ (let c = ap length e in omega arith)
     ]
 
--- the edges that are added at a node, where the segment does not end
-pub left_on : (arrival : Bool) (g : Graph) (heads : List ℕ) (asserts : List (ℕ × ℕ)) (frames : List Frame) (keys : List ℕ) (key called : ℕ) (n : Node)
-    (old new : List Edge) → arrival ≡ false → Contains g.nodes.items n → n.at ≡ address_of key →
-    HasLed heads asserts g.narrow n frames keys key called old new → AreLeft arrival g heads asserts frames keys key called old new
-left_on true g heads asserts frames keys key called n old new e among at led = absurd (cc)
-left_on false g heads asserts frames keys key called n old new e among at led = (led.0, led.1, (n, among, at, led.2))
-
 frame_keeps : (frames rest : List Frame) (n : ℕ) (f : Frame) → frame_at frames n ≡ Some f → frame_at (frames ++ rest) n ≡ Some f
 frame_keeps frames rest zero f e = absurd (cc)
 frame_keeps frames rest (suc i) f e = keeps frames rest i f e
@@ -112,13 +104,13 @@ called_keeps n stack frames rest grown called is by x c l =
 pub called_more : (g : Graph) (keys : List ℕ) (frames grown : List Frame) (i : ℕ) (found more : List ℕ) (n : Node) (number : ℕ) →
     AreCalled g keys frames i found
     → more ≡ found ++ number ∷ [] → Contains g.nodes.items n → n.at ≡ address_of (get_or keys i 0) →
-    IsCalled n (stack_of (get_or keys i 0)) frames grown number → AreCalled g keys grown (i + 1) more
-called_more g keys frames grown i found more n number are is among at called =
+    IsCalled n (stack_of (get_or keys i 0)) frames grown number → IsNoneCalled n number → AreCalled g keys grown (i + 1) more
+called_more g keys frames grown i found more n number are is among at called none =
     let count = are.count in
     record {
       count = grown_by ∙ ap (λ (z : ℕ). z + 1) are.count;
       each = λ j w. elim (cases_lt j i) as (λ _. (m : Node) × Contains g.nodes.items m × (m.at ≡ address_of (get_or keys j 0)) ×
-          IsCalledBy m (stack_of (get_or keys j 0)) grown (get_or more j 0)) [
+          IsCalledBy m (stack_of (get_or keys j 0)) grown (get_or more j 0) × IsNoneCalled m (get_or more j 0)) [
             | inl low ↦
                 let q = are.each j low in
                 let same : get_or more j 0 ≡ get_or found j 0 = ap (λ (l : List ℕ). get_or l j 0) is ∙ or_left found (number ∷ []) j 0 (omega arith) in (
@@ -127,14 +119,20 @@ called_more g keys frames grown i found more n number are is among at called =
                   q.2,
                   subst (λ (z : ℕ). IsCalledBy q.0 (stack_of (get_or keys j 0)) grown z) (sym same)
                       (called_keeps q.0 (stack_of (get_or keys j 0)) frames called.rest grown (get_or found j 0) called.begins q.3),
+                  subst (λ (z : ℕ). IsNoneCalled q.0 z) (sym same) q.4,
                 )
             | inr high ↦
                 let here : j ≡ i = omega arith in
                 let last : get_or more i 0 ≡ number =
                 ap (λ (l : List ℕ). get_or l i 0) is ∙ ap (λ (z : ℕ). get_or (found ++ number ∷ []) z 0) (sym are.count) ∙ or_last found number 0 in
                 subst (λ (z : ℕ). (m : Node) × Contains g.nodes.items m × (m.at ≡ address_of (get_or keys z 0)) ×
-                IsCalledBy m (stack_of (get_or keys z 0)) grown (get_or more z 0)) (sym here)
-                (n, among, at, subst (λ (z : ℕ). IsCalledBy n (stack_of (get_or keys i 0)) grown z) (sym last) called.pushes)
+                IsCalledBy m (stack_of (get_or keys z 0)) grown (get_or more z 0) × IsNoneCalled m (get_or more z 0)) (sym here) (
+                  n,
+                  among,
+                  at,
+                  subst (λ (z : ℕ). IsCalledBy n (stack_of (get_or keys i 0)) grown z) (sym last) called.pushes,
+                  subst (λ (z : ℕ). IsNoneCalled n z) (sym last) none,
+                )
           ];
     }
   where
@@ -142,33 +140,31 @@ called_more g keys frames grown i found more n number are is among at called =
     grown_by = push_length found more number is
 
 -- the edges of a point, from those to its targets and the one out of the function
-pub led_all : (heads : List ℕ) (asserts : List (ℕ × ℕ)) (narrow : Bool) (n : Node) (frames : List Frame) (keys : List ℕ) (own called : ℕ) (jumps : List
-    End) (next : Option End) (both : Bool) (targets : List ℕ)
-    (old mid new : List Edge)
-    → jumps ≡ jumps_of narrow n (frame_at frames (stack_of own)) (stack_of own) called → next ≡ next_of n (stack_of own) → both ≡ is_both jumps next →
-    IsStrictlyIncreasing targets
-    → ((x : ℕ) → Contains (map (target_key own) (jumps ++ listed next)) x ↔ Contains targets x) →
-    ((e : End) → Contains jumps e → e.at < 4294967296) → mid ≡ old ++ exits_by n.returns (stack_of own) →
-    AreAddedTo heads asserts keys next both targets mid new
-    → HasLed heads asserts narrow n frames keys own called old new
-led_all heads asserts narrow n frames keys own called jumps next both targets old mid new e f g rise same small exit so = (
-  exits_by n.returns (stack_of own) ++ so.0,
-  so.1 ∙ ap (λ (l : List Edge). l ++ so.0) exit ∙ regroup old (exits_by n.returns (stack_of own)) so.0,
+pub led_all : (heads stepped : List ℕ) (asserts : List (ℕ × ℕ)) (keys : List ℕ) (own : ℕ) (linked : Option ℕ) (jumps : List End) (next : Option End)
+    (both exits : Bool) (targets : List ℕ) (old mid new : List Edge) → both ≡ is_both jumps next → IsStrictlyIncreasing targets →
+    ((x : ℕ) → Contains (map (target_key stepped linked own) (jumps ++ listed next)) x ↔ Contains targets x) →
+    ((e : End) → Contains jumps e → e.at < 4294967296) → mid ≡ old ++ exits_by exits → AreAddedTo heads asserts keys next both targets mid new →
+    HasLed heads stepped asserts keys own linked jumps next exits old new
+led_all heads stepped asserts keys own linked jumps next both exits targets old mid new g rise same small exit so = (
+  exits_by exits ++ so.0,
+  so.1 ∙ ap (λ (l : List Edge). l ++ so.0) exit ∙ regroup old (exits_by exits) so.0,
   record {
     targets = targets;
     rise = rise;
-    same =
-        subst (λ (l : List End). (x : ℕ) → Contains (map (target_key own) (l ++ listed (next_of n (stack_of own)))) x ↔ Contains targets x) e
-        (subst (λ (o : Option End). (x : ℕ) → Contains (map (target_key own) (jumps ++ listed o)) x ↔ Contains targets x) f same);
-    small = subst (λ (l : List End). (z : End) → Contains l z → z.at < 4294967296) e small;
+    same = same;
+    small = small;
     rest = so.0;
     is = refl;
-    each =
-        subst (λ (l : List End). AllZip (IsLedTo heads asserts keys (next_of n (stack_of own)) (is_both l (next_of n (stack_of own)))) targets so.0) e
-        (subst (λ (o : Option End). AllZip (IsLedTo heads asserts keys o (is_both jumps o)) targets so.0) f (subst
-        (λ (b : Bool). AllZip (IsLedTo heads asserts keys next b) targets so.0) g so.2));
+    each = subst (λ (b : Bool). AllZip (IsLedTo heads asserts keys next b) targets so.0) g so.2;
   },
 )
+
+-- the edges that are added at a node, where its row is executed
+pub left_on : (deed : Deed) (g : Graph) (heads stepped : List ℕ) (asserts : List (ℕ × ℕ)) (frames : List Frame) (keys : List ℕ) (key called : ℕ) (n : Node)
+    (old new : List Edge) → deed ≡ Row → Contains g.nodes.items n → n.at ≡ address_of key →
+    HasRowLed heads stepped asserts g.narrow n frames keys key called old new → AreLeft deed g heads stepped asserts frames keys key called old new
+left_on deed g heads stepped asserts frames keys key called n old new is among at led =
+    subst (λ (d : Deed). AreLeft d g heads stepped asserts frames keys key called old new) (sym is) (led.0, led.1, (n, among, at, led.2))
 
 pub take_none : {X : Type 0} (xs : List X) → take 0 xs ≡ []
 take_none [] = refl

@@ -1,5 +1,5 @@
 -- The list of a lawful row without the assignments of flags that are not live does what the row does, as far as it is read later.
-use Rattle.std.proofs.Common.{◌≡◌, ◌⊎◌, inl, inr, refl, ap, sym, ◌∙◌, subst, arith, ℕ, zero, suc, ◌<◌, Option, Some, None, Bool, true, false}
+use Rattle.std.proofs.Common.{◌≡◌, ◌⊎◌, inl, inr, refl, sym, ◌∙◌, subst, arith, ℕ, zero, suc, ◌<◌, Option, Some, None, Bool, true, false}
 use Rattle.std.specs.Prelude.{◌==◌, ◌&&◌, ◌||◌, nat_lt, ◌↔◌, Contains, length}
 use Rattle.std.proofs.lemmas.Bool.Decides.{nat_tests}
 use Rattle.word_spec.specs.State.{State, IsState}
@@ -11,19 +11,18 @@ use Rattle.machine_spec.specs.BilCounts.{names_only, list_names_only, has_no_loo
 use Rattle.machine_spec.specs.BilMeaning.{Position, Ending, Ends, RaisesException, OutOfTurns, Wrong, execute}
 use Rattle.machine_spec.specs.BilStores.{list_stored}
 use Rattle.bilv_spec.specs.Run.{Program}
-use Rattle.bilv_spec.specs.Points.{file_row}
-use Rattle.bilv_spec.specs.LiveFlags.{IsRead, IsReadAfter, IsLive, assigns_by}
 use Rattle.bilv_spec.proofs.PointsInGraph.{none_in}
 use Rattle.graph_nodes.specs.Graphs.{has_flag}
 use Rattle.bil_trim.specs.Flags.{kept_in, with_flags, position_with, ending_with, IsMeant, AreFree}
-use Rattle.walk_spec.specs.Unrolled.{Carried, UnrolledPoint, goes_on, leaving_by, begins}
-use Rattle.walk_spec.specs.Unrolling.{IsCarriedOf, LeavesAs}
+use Rattle.frame_spec.specs.Frames.{Content}
+use Rattle.frame_spec.specs.FrameUnrolling.{IsCarriedOf, LeavesAs}
+use Rattle.frame_spec.specs.FrameWalk.{UnrolledPoint, goes_on, leaving_by}
 use Rattle.bil_trim.proofs.Fewer.{flags_add_nothing}
 use Rattle.bil_trim.proofs.Leaves.{neither, other_flags_stay}
 use Rattle.bil_trim.proofs.Unread.{flags_keep_meaning, flags_store_no_more}
 use Rattle.unroller.proofs.Mixed.{both, all_three, all_four}
 use Rattle.unroller.proofs.Named.{join}
-use Rattle.unroller.proofs.Rows.{pick, pick_below, high, leaves_lifted, stores_lifted}
+use Rattle.unroller.proofs.Rows.{begins, pick, pick_below, high, leaves_lifted, stores_lifted}
 
 none_of : (a b : Bool) → a ≡ false → b ≡ false → (a || b) ≡ false
 none_of true b h i = absurd (cc)
@@ -82,8 +81,9 @@ beyond : (f n : ℕ) → n < 5 → nat_lt f 4 ≡ false → nat_lt f n ≡ false
 beyond f n few e = grind (arith, nat_tests)
 
 module _ (p : Program) (form : Layout) (bank : Bank) (q : UnrolledPoint) (row : Row) (list : Statements) (fitted : IsFitted p.machine form)
-    (is : file_row p q.point.at ≡ Some row) (lawful : IsLawful row) (lifting : IsLifting p.machine bank row q.point.at list)
-    (long : q.length ≡ row.length) (keeps : ℕ) (live : (f : ℕ) → f < 4 → (has_flag keeps f ≡ true) ↔ IsLive p f q.point.at) where
+    (lawful : IsLawful row) (lifting : IsLifting p.machine bank row q.point.at list) (long : q.length ≡ row.length) (Reads After : ℕ → Type 0)
+    (read_now : (i : ℕ) → row.flags.reads i ≡ true → Reads i) (read_later : (i : ℕ) → row.flags.surely i ≡ false → After i → Reads i) (keeps : ℕ)
+    (stays : (f : ℕ) → f < 4 → row.flags.assigns f ≡ true → After f → has_flag keeps f ≡ true) where
   abbrev kept : ℕ → Bool
   kept = kept_in keeps
 
@@ -102,17 +102,17 @@ module _ (p : Program) (form : Layout) (bank : Bank) (q : UnrolledPoint) (row : 
   free : AreFree kept list
   free f h = free_by f (nat_lt f 4) refl
 
-  dead : (f : ℕ) → f < 4 → has_flag keeps f ≡ false → IsReadAfter p f q.point.at → (b : Bool) → may_assign f list ≡ b → may_assign f list ≡ false
+  dead : (f : ℕ) → f < 4 → has_flag keeps f ≡ false → After f → (b : Bool) → may_assign f list ≡ b → may_assign f list ≡ false
   dead f w e after true h =
-      absurd (let z = (live f w).1 (record { assigns = ap (λ (o : Option Row). assigns_by f o) is ∙ lifting.assigns f w h; read = after }) in cc)
+      absurd (let z = stays f w (lifting.assigns f w h) after in cc)
   dead f w e after false h = h
 
-  idle_by : (f : ℕ) (b : Bool) → nat_lt f 4 ≡ b → (b && has_flag keeps f) ≡ false → IsReadAfter p f q.point.at → may_assign f list ≡ false
+  idle_by : (f : ℕ) (b : Bool) → nat_lt f 4 ≡ b → (b && has_flag keeps f) ≡ false → After f → may_assign f list ≡ false
   idle_by f true e h after = dead f (low f e) h after (may_assign f list) refl
   idle_by f false e h after = none_beyond f e
 
   -- the lifted list does not assign a flag that is read later and not kept
-  idle : (f : ℕ) → kept f ≡ false → IsReadAfter p f q.point.at → may_assign f list ≡ false
+  idle : (f : ℕ) → kept f ≡ false → After f → may_assign f list ≡ false
   idle f h after = idle_by f (nat_lt f 4) refl h after
 
   meant : (reads : ℕ → Type 0) (o : Outcome) (d : Ending) → LeavesAs reads o (leaving_by q d) → IsMeant d
@@ -122,21 +122,21 @@ module _ (p : Program) (form : Layout) (bank : Bank) (q : UnrolledPoint) (row : 
   meant reads (Goes how new) Wrong h = absurd h
   meant reads (Raises e) Wrong h = absurd h
 
-  abbrev carried : Position → Carried
+  abbrev carried : Position → Content
   carried t = record { regs = t.env.regs; flags = t.env.flags; mem = t.env.mem }
 
-  going : (reads : ℕ → Type 0) (o : Outcome) (j : Option ℕ) (a b : Carried) → ((new : State) → IsCarriedOf reads new a → IsCarriedOf reads new b) →
+  going : (reads : ℕ → Type 0) (o : Outcome) (j : Option ℕ) (a b : Content) → ((new : State) → IsCarriedOf reads new a → IsCarriedOf reads new b) →
       LeavesAs reads o (goes_on q j a) → LeavesAs reads o (goes_on q j b)
   going reads (Goes how new) None a b f h = (h.0, h.1, f new h.2)
   going reads (Goes how new) (Some x) a b f h = (h.0, h.1, f new h.2)
   going reads (Raises e) None a b f h = absurd h
   going reads (Raises e) (Some x) a b f h = absurd h
 
-  module _ (c : Carried) (choice : ℕ) where
+  module _ (c : Content) (choice : ℕ) where
     abbrev end : Ending
     end = execute list choice (begins q c)
 
-    module _ (reads : ℕ → Type 0) (two : (f : ℕ) → c.flags f < 2) (after : (f : ℕ) → reads f → IsReadAfter p f q.point.at) where
+    module _ (reads : ℕ → Type 0) (two : (f : ℕ) → c.flags f < 2) (after : (f : ℕ) → reads f → After f) where
       carries : (new : State) (t : Position) → end ≡ Ends t → IsCarriedOf reads new (carried t) →
           IsCarriedOf reads new (carried (position_with kept c.flags t))
       carries new t ends h = record {
@@ -163,11 +163,11 @@ module _ (p : Program) (form : Layout) (bank : Bank) (q : UnrolledPoint) (row : 
           subst (λ (z : Ending). LeavesAs reads o (leaving_by q z))
           (sym (flags_keep_meaning kept list choice (begins q c) lifting.no_loop free (meant reads o end h))) (leaves_by o end refl h)
 
-  pub leaves_trimmed : (s : State) (c : Carried) (choice : ℕ) → IsState s → s.pc ≡ q.point.at → choice < 4 → IsCarriedOf (λ f. IsRead p f s.pc) s c →
-      LeavesAs (λ f. IsReadAfter p f s.pc) (row.effect s choice) (leaving_by q (execute trimmed choice (begins q c)))
+  pub leaves_trimmed : (s : State) (c : Content) (choice : ℕ) → IsState s → s.pc ≡ q.point.at → choice < 4 → IsCarriedOf Reads s c →
+      LeavesAs After (row.effect s choice) (leaving_by q (execute trimmed choice (begins q c)))
   leaves_trimmed s c choice state here few h =
-      leaves_so c choice (λ f. IsReadAfter p f s.pc) h.state.flags (λ f r. subst (λ (z : ℕ). IsReadAfter p f z) here r) (row.effect s choice)
-      (leaves_lifted p form bank q row list fitted is lawful lifting long s c choice state here few h)
+      leaves_so c choice After h.state.flags (λ f r. r) (row.effect s choice)
+      (leaves_lifted p form bank q row list fitted lawful lifting long Reads After read_now read_later s c choice state here few h)
 
   -- the flag is kept if the list assigns it
   abbrev Stays : ℕ → Type 0
@@ -204,12 +204,12 @@ module _ (p : Program) (form : Layout) (bank : Bank) (q : UnrolledPoint) (row : 
     ]
   ]
 
-  pub stores_trimmed : (s : State) (c : Carried) (choice : ℕ) → IsState s → s.pc ≡ q.point.at → choice < 4 → IsCarriedOf (λ f. IsRead p f s.pc) s c →
+  pub stores_trimmed : (s : State) (c : Content) (choice : ℕ) → IsState s → s.pc ≡ q.point.at → choice < 4 → IsCarriedOf Reads s c →
       (a : ℕ) → Contains (list_stored trimmed choice (begins q c)) a ↔ Contains (addresses (row.stored s)) a
   stores_trimmed s c choice state here few h a =
-      let same = stores_lifted p form bank q row list fitted is lawful lifting long s c choice state here few h a in
-      let means = meant (λ f. IsReadAfter p f s.pc) (row.effect s choice) (end c choice)
-      (leaves_lifted p form bank q row list fitted is lawful lifting long s c choice state here few h) in
+      let same = stores_lifted p form bank q row list fitted lawful lifting long Reads After read_now read_later s c choice state here few h a in
+      let means = meant After (row.effect s choice) (end c choice)
+      (leaves_lifted p form bank q row list fitted lawful lifting long Reads After read_now read_later s c choice state here few h) in
       elim (same_or_none s) as (λ _. Contains (list_stored trimmed choice (begins q c)) a ↔ Contains (addresses (row.stored s)) a) [
         | inl all ↦
             subst (λ (z : Statements). Contains (list_stored z choice (begins q c)) a ↔ Contains (addresses (row.stored s)) a)

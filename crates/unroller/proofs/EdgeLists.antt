@@ -40,6 +40,10 @@ apart_once (x ∷ xs) a zero (suc j) l h e = a.0 (at_in xs j x (sym e))
 apart_once (x ∷ xs) a (suc i) zero l h e = omega arith
 apart_once (x ∷ xs) a (suc i) (suc j) l h e = apart_once xs a.1 i j (omega arith) (omega arith) e
 
+-- a program's edges are each once
+pub edges_once : (p : Program) (point : Point) → Once (edges p point)
+edges_once p point = apart_once (edges p point) (apart_distinct (filter (leads_on p.machine.narrow) (edges_by p point (file_row p point.at))))
+
 pub ends_make_edges : EndsMakeEdges
 ends_make_edges p point ends same once first =
     let own : List EdgeEnd = edges p point in

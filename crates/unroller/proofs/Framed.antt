@@ -1,14 +1,14 @@
 -- The frame of a file, and the numbers of its points among those of its graph.
-use Rattle.std.proofs.Common.{◌≡◌, refl, ap, sym, ◌∙◌, subst, arith, ℕ, ◌<◌, ◌≤◌, Bool, false, Option, Some, None, List, ◌++◌, length, get_or, map}
-use Rattle.std.specs.Prelude.{Contains, ◌↔◌, slice_index}
+use Rattle.std.proofs.Common.{◌≡◌, refl, ap, sym, ◌∙◌, subst, arith, ℕ, ◌<◌, ◌≤◌, Bool, true, false, Option, Some, None, List, [], ◌∷◌, ◌++◌, length, get_or, map}
+use Rattle.std.specs.Prelude.{Contains, ◌↔◌, ◌==◌, ◌||◌, filter, is_some, not, slice_index, if◌then◌else◌}
 use Rattle.std.proofs.lemmas.List.{get_or_default}
 use Rattle.std.proofs.Math.ListN.{length-append}
 use Rattle.machine_spec.specs.Machine.{Machine}
 use Rattle.machine_spec.specs.MachineLaws.{IsLawfulMachine}
 use Rattle.bilv_spec.specs.Notes.{Notes}
-use Rattle.bilv_spec.proofs.PointSteps.{in_map}
-use Rattle.bilv_spec.proofs.PointsInGraph.{of_map}
-use Rattle.frame_spec.specs.Frames.{Frame}
+use Rattle.bilv_spec.proofs.PointSteps.{in_filter, in_map}
+use Rattle.bilv_spec.proofs.PointsInGraph.{of_filter, of_map}
+use Rattle.frame_spec.specs.Frames.{Frame, contract_at}
 use Rattle.frame_spec.specs.FramePoints as spec
 use Rattle.frame_spec.specs.FramePoints.{Anchor, AtHead, IsAnchor, IsPoint}
 use Rattle.frame_laws.proofs.FrameGraph.{of_point}
@@ -16,32 +16,50 @@ use Rattle.graph_nodes.specs.declared.nodes.Graph.{Graph}
 use Rattle.graph_nodes.specs.Graphs.{IsGraph, addresses_of}
 use Rattle.program_points.specs.declared.values.Frame as stack
 use Rattle.program_points.specs.declared.values.Root.{Root}
-use Rattle.program_points.specs.Listed.{anchor_of}
+use Rattle.notes_value.specs.declared.notes.Contract.{Contract}
+use Rattle.notes_value.specs.FrameViews.{contract_of as shown}
+use Rattle.program_points.specs.Listed.{anchor_of, AreCuts}
 use Rattle.program_points.specs.Tables.{is_among, is_root_within, stack_at, stacks_of}
 use Rattle.program_points.proofs.Stacked.{stack_keeps}
-use Rattle.unroller.specs.Asking.{frame_of, program_asking}
+use Rattle.unroller.specs.Asking.{program_asking}
+use Rattle.unroller.specs.Frames.{parts_frame}
+use Rattle.unroller.specs.declared.unrolling.FrameParts.{FrameParts}
 use Rattle.unroller.specs.Heads.{head_places}
 use Rattle.question_form.specs.declared.unrolled.Edge.{Edge}
 use Rattle.question_form.specs.declared.unrolled.Point.{Point}
-use Rattle.unroller.specs.Led.{ArePlaced}
-use Rattle.unroller.specs.Keys.{address_of, root_of, stack_of, turns_of, head_of, anchor_by, point_of, AreKeys, AreSegments, IsFrameOf}
-use Rattle.unroller.proofs.CutHeads.{heads_are}
+use Rattle.question_form.specs.declared.unrolled.Deed.TheVariants.{Contract as Step}
+use Rattle.unroller.specs.Led.{ArePlaced, HasCode, deed_at, is_arrival}
+use Rattle.unroller.specs.Places.{deed_by}
+use Rattle.unroller.specs.Keys.{address_of, contract_of, is_of, place_in, root_of, stack_of, turns_of, head_of, anchor_by, point_of, AreKeys, AreSegments, IsFrameOf}
+use Rattle.unroller.proofs.CutHeads.{among_in, heads_are}
+use Rattle.unroller.proofs.FrameFirst.{of_contract}
 use Rattle.unroller.proofs.FileRows.{asked_one_way}
 
-pub frame_is : (m : Machine) (file : List ℕ) (n : Notes) (entry : ℕ) (asked : ℕ → Bool) (invariants : List ℕ) (g : Graph) (heads lent : List ℕ) →
+some_by : (x : Contract) (rest : List Contract) (a : ℕ) (b : Bool) → (x.at == a) ≡ b →
+    is_some (contract_at (map shown rest) a) ≡ is_among (map (λ (y : Contract). y.at) rest) a →
+    is_some (if b then Some (shown x) else contract_at (map shown rest) a) ≡ (b || is_among (map (λ (y : Contract). y.at) rest) a)
+some_by x rest a true e h = refl
+some_by x rest a false e h = h
+
+-- the addresses of contracts are those at which there is one
+pub steps_among : (xs : List Contract) (a : ℕ) → is_some (contract_at (map shown xs) a) ≡ is_among (map (λ (x : Contract). x.at) xs) a
+steps_among [] a = refl
+steps_among (x ∷ xs) a = some_by x xs a (x.at == a) refl (steps_among xs a)
+
+pub frame_is : (m : Machine) (file : List ℕ) (n : Notes) (entry : ℕ) (asked : ℕ → Bool) (parts : FrameParts) (g : Graph) (heads lent steps : List ℕ) →
     IsGraph (program_asking m file n entry asked) g → IsLawfulMachine m → ((i : ℕ) → slice_index file i < 256) →
-    ((x : ℕ) → Contains (head_places invariants n.asserts) x ↔ Contains heads x) → lent ≡ heads →
-    IsFrameOf (frame_of (program_asking m file n entry asked) invariants) g lent entry
-frame_is m file n entry asked invariants g heads lent graph lawful small same e = record {
+    ((x : ℕ) → Contains (head_places parts.invariants.now n.asserts) x ↔ Contains heads x) → lent ≡ heads →
+    steps ≡ map (λ (x : Contract). x.at) parts.stepped.now →
+    IsFrameOf (parts_frame (program_asking m file n entry asked) parts) g lent steps entry
+frame_is m file n entry asked parts g heads lent steps graph lawful small same e at = record {
   graph = graph;
   begins = refl;
   way = asked_one_way m file n entry asked lawful small;
   cuts = record {
     heads = λ a.
-        heads_are (frame_of (program_asking m file n entry asked) invariants) heads refl same a ∙ ap (λ (l : List ℕ). is_among l a) (sym e);
-    stepped = λ a. refl;
+        heads_are (parts_frame (program_asking m file n entry asked) parts) heads refl same a ∙ ap (λ (l : List ℕ). is_among l a) (sym e);
+    stepped = λ a. steps_among parts.stepped.now a ∙ ap (λ (l : List ℕ). is_among l a) (sym at);
   };
-  plain = refl;
 }
 
 module _ (f : Frame) (k : ℕ) (frames : List stack.Frame) (segments keys xs : List ℕ) (are : AreKeys f k frames segments keys) (lent : xs ≡ keys) where
@@ -51,13 +69,24 @@ module _ (f : Frame) (k : ℕ) (frames : List stack.Frame) (segments keys xs : L
   pub among_graph : (g : Graph) → IsGraph f.program g → (i : ℕ) → i < length xs → Contains (addresses_of g) (address_of (get_or xs i 0))
   among_graph g graph i w = (graph.all (address_of (get_or xs i 0))).1 (of_point f k (point_of frames segments (get_or xs i 0)) (ys.only i w)).0
 
-  pub addresses_among : (g : Graph) (addresses os : List ℕ) → IsGraph f.program g → os ≡ addresses →
-      ((x : ℕ) → Contains (map address_of xs) x ↔ Contains addresses x) → (a : ℕ) → Contains os a → Contains (addresses_of g) a
-  addresses_among g addresses os graph e same a h =
-      let q = of_map address_of xs a ((same a).1 (subst (λ (l : List ℕ). Contains l a) e h)) in
-      let i = q.1.0 in
-      let at : get_or xs i 0 ≡ q.0 = get_or_default xs i 0 q.0 q.1.1 ∙ q.1.2 in
-      subst (λ (z : ℕ). Contains (addresses_of g) z) (ap address_of at ∙ q.2) (among_graph g graph i q.1.1)
+  pub addresses_among : (contract : Bool) (g : Graph) (addresses os : List ℕ) → IsGraph f.program g → os ≡ addresses →
+      ((x : ℕ) → Contains (map address_of (filter (is_of contract) xs)) x ↔ Contains addresses x) → (a : ℕ) → Contains os a → Contains (addresses_of g) a
+  addresses_among contract g addresses os graph e same a h =
+      let q = of_map address_of (filter (is_of contract) xs) a ((same a).1 (subst (λ (l : List ℕ). Contains l a) e h)) in
+      let i = (of_filter (is_of contract) xs q.0 q.1).0 in
+      let at : get_or xs i.0 0 ≡ q.0 = get_or_default xs i.0 0 q.0 i.1 ∙ i.2 in
+      subst (λ (z : ℕ). Contains (addresses_of g) z) (ap address_of at ∙ q.2) (among_graph g graph i.0 i.1)
+
+  -- the address of a point of a contract step is a contract's
+  pub steps_stepped : (heads stepped steps : List ℕ) → AreCuts f heads stepped →
+      ((x : ℕ) → Contains (map address_of (filter (is_of true) xs)) x ↔ Contains steps x) → (a : ℕ) → Contains steps a → Contains stepped a
+  steps_stepped heads stepped steps cuts same a h =
+      let q = of_map address_of (filter (is_of true) xs) a ((same a).1 h) in
+      let i = of_filter (is_of true) xs q.0 q.1 in
+      let at : get_or xs i.0.0 0 ≡ q.0 = get_or_default xs i.0.0 0 q.0 i.0.1 ∙ i.0.2 in
+      let point = of_contract f k (point_of frames segments (get_or xs i.0.0 0)) (ys.only i.0.0 i.0.1) (ap contract_of at ∙ i.1) in
+      subst (λ (z : ℕ). Contains stepped z) (ap address_of at ∙ q.2)
+      (among_in stepped (address_of (get_or xs i.0.0 0)) (sym (cuts.stepped (address_of (get_or xs i.0.0 0))) ∙ point.0))
 
   pub keys_fit : (i : ℕ) → i < length xs → stack_of (get_or xs i 0) ≤ length frames
   keys_fit i w = ys.fits i w
@@ -68,13 +97,27 @@ module _ (f : Frame) (k : ℕ) (frames : List stack.Frame) (segments keys xs : L
   pub keys_rooted : length segments ≤ 16777216 → (i : ℕ) → i < length xs → root_of (get_or xs i 0) ≤ 16777216
   keys_rooted le i w = let l = ys.rooted i w in omega arith
 
-pub keys_coded : (keys xs ys addresses os : List ℕ) → xs ≡ keys → ys ≡ keys → os ≡ addresses →
-    ((x : ℕ) → Contains (map address_of xs) x ↔ Contains addresses x) → (i : ℕ) → i < length ys
-    → Contains os (address_of (get_or ys i 0))
-keys_coded keys xs ys addresses os e f d same i w =
-    let inside : Contains ys (get_or ys i 0) = (i, w, get_or_default ys i (get_or ys i 0) 0 w) in
-    let moved : Contains xs (get_or ys i 0) = subst (λ (l : List ℕ). Contains l (get_or ys i 0)) (f ∙ sym e) inside in
-    subst (λ (l : List ℕ). Contains l (address_of (get_or ys i 0))) (sym d) ((same (address_of (get_or ys i 0))).0 (in_map address_of xs (get_or ys i 0) moved))
+-- there is a code for each point
+code_by : (heads stepped rows steps : List ℕ) (key : ℕ) (b : Bool) → contract_of key ≡ b → (b ≡ true → Contains steps (address_of key)) →
+    (b ≡ false → Contains rows (address_of key)) →
+    HasCode (if b then Step (place_in stepped (address_of key)) else deed_by (is_arrival heads key)) rows steps (address_of key)
+code_by heads stepped rows steps key true e t r = t refl
+code_by heads stepped rows steps key false e t r = by (is_arrival heads key) (r refl)
+  where
+    by : (arrival : Bool) → Contains rows (address_of key) → HasCode (deed_by arrival) rows steps (address_of key)
+    by true h = h
+    by false h = h
+
+pub keys_coded : (heads stepped xs ys rows steps : List ℕ) → xs ≡ ys →
+    ((x : ℕ) → Contains (map address_of (filter (is_of false) xs)) x ↔ Contains rows x) →
+    ((x : ℕ) → Contains (map address_of (filter (is_of true) xs)) x ↔ Contains steps x) → (i : ℕ) → i < length ys →
+    HasCode (deed_at heads stepped (get_or ys i 0)) rows steps (address_of (get_or ys i 0))
+keys_coded heads stepped xs ys rows steps e of_rows of_steps i w =
+    let key = get_or ys i 0 in
+    let inside : Contains xs key = subst (λ (l : List ℕ). Contains l key) (sym e) (i, w, get_or_default ys i key 0 w) in
+    code_by heads stepped rows steps key (contract_of key) refl
+    (λ t. (of_steps (address_of key)).0 (in_map address_of (filter (is_of true) xs) key (in_filter (is_of true) xs key inside t)))
+    (λ t. (of_rows (address_of key)).0 (in_map address_of (filter (is_of false) xs) key (in_filter (is_of false) xs key inside (ap not t))))
 
 -- more stacks leave the points as they are
 module _ (f : Frame) (k : ℕ) (frames rest grown : List stack.Frame) (segments keys : List ℕ) (is : grown ≡ frames ++ rest)
@@ -112,7 +155,7 @@ module _ (f : Frame) (k : ℕ) (frames rest grown : List stack.Frame) (segments 
         ap (λ (z : Anchor). let r : spec.Point = record {
           anchor = z;
           turns = turns_of x;
-          contract = false;
+          contract = contract_of x;
           stack = stack_at grown (stack_of x);
           at =
               address_of x;
@@ -121,7 +164,7 @@ module _ (f : Frame) (k : ℕ) (frames rest grown : List stack.Frame) (segments 
         ∙ ap (λ (z : List ℕ). let r : spec.Point = record {
           anchor = anchor_by frames segments (root_of x);
           turns = turns_of x;
-          contract = false;
+          contract = contract_of x;
           stack = z;
           at = address_of x;
         } in r) (stack_same (stack_of x) (are.fits i w))
@@ -137,15 +180,17 @@ module _ (f : Frame) (k : ℕ) (frames rest grown : List stack.Frame) (segments 
     }
 
 -- points that are placed by lists are placed by equal ones
-pub placed_as : (g : Graph) (heads heads' : List ℕ) (asserts asserts' : List (ℕ × ℕ)) (frames frames' : List stack.Frame)
-    (keys keys' addresses addresses' called called' : List ℕ) (points : List Point) (edges : List Edge) → heads ≡ heads' → asserts ≡ asserts' →
-    frames ≡ frames' →
-    keys ≡ keys' → addresses ≡ addresses' → called ≡ called' → ArePlaced g heads asserts frames keys addresses called (length keys) points edges →
-    ArePlaced g heads' asserts' frames' keys' addresses' called' (length keys') points edges
-placed_as g heads heads' asserts asserts' frames frames' keys keys' addresses addresses' called called' points edges a b c d e f is =
-    subst (λ (l : List ℕ). ArePlaced g l asserts' frames' keys' addresses' called' (length keys') points edges) a
-    (subst (λ (l : List (ℕ × ℕ)). ArePlaced g heads l frames' keys' addresses' called' (length keys') points edges) b
-    (subst (λ (l : List stack.Frame). ArePlaced g heads asserts l keys' addresses' called' (length keys') points edges) c
-    (subst (λ (l : List ℕ). ArePlaced g heads asserts frames l addresses' called' (length l) points edges) d
-    (subst (λ (l : List ℕ). ArePlaced g heads asserts frames keys l called' (length keys) points edges) e
-    (subst (λ (l : List ℕ). ArePlaced g heads asserts frames keys addresses l (length keys) points edges) f is)))))
+pub placed_as : (g : Graph) (heads heads' stepped stepped' : List ℕ) (asserts asserts' : List (ℕ × ℕ)) (frames frames' : List stack.Frame)
+    (keys keys' rows rows' steps steps' called called' : List ℕ) (points : List Point) (edges : List Edge) → heads ≡ heads' → stepped ≡ stepped' →
+    asserts ≡ asserts' → frames ≡ frames' → keys ≡ keys' → rows ≡ rows' → steps ≡ steps' → called ≡ called' →
+    ArePlaced g heads stepped asserts frames keys rows steps called (length keys) points edges →
+    ArePlaced g heads' stepped' asserts' frames' keys' rows' steps' called' (length keys') points edges
+placed_as g heads heads' stepped stepped' asserts asserts' frames frames' keys keys' rows rows' steps steps' called called' points edges a h b c d e i f is =
+    subst (λ (l : List ℕ). ArePlaced g l stepped' asserts' frames' keys' rows' steps' called' (length keys') points edges) a
+    (subst (λ (l : List ℕ). ArePlaced g heads l asserts' frames' keys' rows' steps' called' (length keys') points edges) h
+    (subst (λ (l : List (ℕ × ℕ)). ArePlaced g heads stepped l frames' keys' rows' steps' called' (length keys') points edges) b
+    (subst (λ (l : List stack.Frame). ArePlaced g heads stepped asserts l keys' rows' steps' called' (length keys') points edges) c
+    (subst (λ (l : List ℕ). ArePlaced g heads stepped asserts frames l rows' steps' called' (length l) points edges) d
+    (subst (λ (l : List ℕ). ArePlaced g heads stepped asserts frames keys l steps' called' (length keys) points edges) e
+    (subst (λ (l : List ℕ). ArePlaced g heads stepped asserts frames keys rows l called' (length keys) points edges) i
+    (subst (λ (l : List ℕ). ArePlaced g heads stepped asserts frames keys rows steps l (length keys) points edges) f is)))))))

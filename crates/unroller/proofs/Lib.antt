@@ -1,33 +1,38 @@
-pub mod Capped
-mod Repeated
 mod Coded
 mod Dropped
-pub mod EdgeLists
-pub mod KeptRuns
-pub mod Looked
+mod Found
 mod Mixed
 mod Named
-pub mod Placed
-pub mod Numbered
-pub mod SameKeys
-pub mod RootPlaces
-pub mod CutHeads
-pub mod Framed
-pub mod Heading
-pub mod FrameLines
 mod Priced
-pub mod Totalled
+mod Repeated
 mod Rows
-pub mod Literals
-mod Found
-pub mod Ordered
 pub mod Adding
-pub mod FileRows
-pub mod Places
+pub mod Addressed
+pub mod BackEdges
+pub mod Capped
 pub mod Coding
+pub mod CutHeads
+pub mod EdgeLists
 pub mod Ends
+pub mod FileRows
+pub mod FrameFirst
+pub mod FrameLines
+pub mod Framed
+pub mod Fronts
+pub mod Grouped
+pub mod Heading
+pub mod KeptRuns
 pub mod Leads
 pub mod Listing
-pub mod Grouped
+pub mod Literals
+pub mod Looked
+pub mod Numbered
+pub mod Ordered
+pub mod Placed
+pub mod Places
+pub mod ReadFlags
+pub mod RootPlaces
+pub mod RowEdges
+pub mod SameKeys
+pub mod Totalled
 pub mod Whole
-pub mod FrameFirst

@@ -1,5 +1,5 @@
 -- The numbers of all points, from their list.
-use Rattle.std.proofs.Common.{◌≡◌, refl, ap, sym, ◌∙◌, subst, arith, ℕ, zero, suc, ◌+◌, ◌<◌, ◌≤◌, Option, Some, None, Bool, false, List, [], ◌∷◌, length, get_or, map}
+use Rattle.std.proofs.Common.{◌≡◌, refl, ap, sym, ◌∙◌, subst, arith, ℕ, zero, suc, ◌+◌, ◌<◌, ◌≤◌, Option, Some, None, Bool, List, [], ◌∷◌, length, get_or, map}
 use Rattle.std.specs.Prelude.{Contains, ◌↔◌, slice_get}
 use Rattle.std.specs.List.Sorted.{IsStrictlyIncreasing}
 use Rattle.std.proofs.lemmas.List.{get_or_default}
@@ -17,9 +17,9 @@ use Rattle.program_points.specs.Listed.{AreStacks, AreFramePointsOf, anchor_of, 
 use Rattle.program_points.specs.Tables.{frame, is_root_within, stack_at, stacks_of}
 use Rattle.program_points.proofs.Stacked.{stack_none, stack_next}
 use Rattle.known_bytes.proofs.Ordered.{rises}
-use Rattle.unroller.specs.Keys.{segment_of, place_in, point_key, point_of, turns_of, address_of, stack_of, root_of, head_number, head_of, anchor_by, AreKeys, AreSegments}
+use Rattle.unroller.specs.Keys.{segment_of, place_in, point_key, point_of, turns_of, address_of, stack_of, contract_of, root_of, head_number, head_of, anchor_by, AreKeys, AreSegments}
 use Rattle.unroller.proofs.FrameFirst.{points_are_of_segments}
-use Rattle.unroller.proofs.Numbered.{root_is, turns_is, address_is, stack_is, place_at, IsSmall, head_same}
+use Rattle.unroller.proofs.Numbered.{root_is, turns_is, address_is, stack_is, contract_is, place_at, IsSmall, head_same}
 
 -- the stacks of frames are the only ones
 stacks_are : (frames : List Frame) (stacks : List (List ℕ)) → AreStacks frames stacks → (fuel n : ℕ) → n ≤ fuel → n ≤ length frames →
@@ -51,7 +51,7 @@ root_small stacks entry None q most e small w le = tt
 root_small stacks entry (Some r) q most e small w le =
     let at : q.at ≡ r.at = ap (λ (z : spec.Point). z.at) e in ((omega arith), (omega arith))
 
-module _ (f : specs.Frame) (k : ℕ) (v : FramePoints) (segments keys listed : List ℕ) (plain : f.stepped ≡ []) (are : AreFramePointsOf f k v)
+module _ (f : specs.Frame) (k : ℕ) (v : FramePoints) (segments keys listed : List ℕ) (are : AreFramePointsOf f k v)
     (numbered : (q : FramePoint) → Contains v.points.items q → q.stack ≤ length v.stacks.frames.items)
     (rooted : (q : FramePoint) → Contains v.points.items q → is_root_within (length v.stacks.frames.items) q.root)
     (low : (q : FramePoint) → Contains v.points.items q → q.turns ≤ k) (few : k ≤ 4096) (few_stacks : length v.stacks.frames.items ≤ 16777216)
@@ -74,7 +74,7 @@ module _ (f : specs.Frame) (k : ℕ) (v : FramePoints) (segments keys listed : L
   listed_as x is = of_map point v.points.items x (are.2.all x is)
 
   its_segment : (q : FramePoint) → Contains v.points.items q → IsAnchor f k (anchor_of stacks q.root)
-  its_segment q h = (points_are_of_segments f k (point q) plain (its_point q h)).anchor
+  its_segment q h = (points_are_of_segments f k (point q) (its_point q h)).anchor
 
   its_small : (q : FramePoint) → Contains v.points.items q → IsSmall q.root
   its_small q h =
@@ -101,56 +101,50 @@ module _ (f : specs.Frame) (k : ℕ) (v : FramePoints) (segments keys listed : L
       let t = low q h in
       let root = place_in segments (segment_of q) in
       let key = point_key segments q in
-      let r : root_of key ≡ root = root_is root q.turns q.at q.stack (omega arith) a (omega arith) in
-      let s : stack_of key ≡ q.stack = stack_is root q.turns q.at q.stack (omega arith) a (omega arith) in
+      let r : root_of key ≡ root = root_is root q.turns q.at q.stack q.contract (omega arith) a (omega arith) in
+      let s : stack_of key ≡ q.stack = stack_is root q.turns q.at q.stack q.contract (omega arith) a (omega arith) in
       ap (λ (z : ℕ). let x : spec.Point = record {
         anchor = anchor_by frames segments z;
         turns = turns_of key;
-        contract = false;
+        contract = contract_of key;
         stack = stack_at frames (stack_of key);
         at = address_of key;
       } in x) r
       ∙ ap (λ (z : Anchor). let x : spec.Point = record {
         anchor = z;
         turns = turns_of key;
-        contract = false;
+        contract = contract_of key;
         stack = stack_at frames (stack_of key);
-        at =
-            address_of key;
-      }
-      in x) (anchor_is q h root (its_place q h).1)
+        at = address_of key;
+      } in x) (anchor_is q h root (its_place q h).1)
       ∙ ap (λ (z : ℕ). let x : spec.Point = record {
         anchor = anchor_of stacks q.root;
         turns = z;
-        contract = false;
+        contract = contract_of key;
         stack = stack_at frames (stack_of key);
         at = address_of key;
-      } in x) (turns_is root q.turns q.at q.stack (omega arith) a (omega arith))
+      } in x) (turns_is root q.turns q.at q.stack q.contract (omega arith) a (omega arith))
       ∙ ap (λ (z : List ℕ). let x : spec.Point = record {
         anchor = anchor_of stacks q.root;
         turns = q.turns;
-        contract = false;
+        contract = contract_of key;
         stack = z;
-        at = address_of
-            key;
-      } in x)
-      (ap (stack_at frames) s ∙ sym (stacks_are frames stacks are.1 q.stack q.stack (omega arith) n))
+        at = address_of key;
+      } in x) (ap (stack_at frames) s ∙ sym (stacks_are frames stacks are.1 q.stack q.stack (omega arith) n))
       ∙ ap (λ (z : ℕ). let x : spec.Point = record {
         anchor = anchor_of stacks q.root;
         turns = q.turns;
-        contract = false;
+        contract = contract_of key;
         stack = get_or stacks q.stack [];
         at = z;
-      } in x)
-      (address_is root q.turns q.at q.stack (omega arith) a (omega arith))
+      } in x) (address_is root q.turns q.at q.stack q.contract (omega arith) a (omega arith))
       ∙ ap (λ (b : Bool). let x : spec.Point = record {
         anchor = anchor_of stacks q.root;
         turns = q.turns;
         contract = b;
         stack = get_or stacks q.stack [];
         at = q.at;
-      } in x)
-      (sym (points_are_of_segments f k (point q) plain (its_point q h)).contract)
+      } in x) (contract_is root q.turns q.at q.stack q.contract)
 
   segment_point : (n : ℕ) → n < length segments → (q : FramePoint) × Contains v.points.items q × (segment_of q ≡ get_or segments n 0)
   segment_point n w =
@@ -200,7 +194,7 @@ module _ (f : specs.Frame) (k : ℕ) (v : FramePoints) (segments keys listed : L
         let a = small q.0 q.1 in
         let t = low q.0 q.1 in
         let z : stack_of (get_or keys i 0) ≡ q.0.stack = ap stack_of (sym q.2) ∙
-        stack_is (place_in segments (segment_of q.0)) q.0.turns q.0.at q.0.stack (omega arith) a (omega arith) in
+        stack_is (place_in segments (segment_of q.0)) q.0.turns q.0.at q.0.stack q.0.contract (omega arith) a (omega arith) in
         omega arith;
     few = λ i w.
         let q = key_point i w in
@@ -208,7 +202,7 @@ module _ (f : specs.Frame) (k : ℕ) (v : FramePoints) (segments keys listed : L
         let a = small q.0 q.1 in
         let t = low q.0 q.1 in
         let z : turns_of (get_or keys i 0) ≡ q.0.turns = ap turns_of (sym q.2) ∙
-        turns_is (place_in segments (segment_of q.0)) q.0.turns q.0.at q.0.stack (omega arith) a (omega arith) in
+        turns_is (place_in segments (segment_of q.0)) q.0.turns q.0.at q.0.stack q.0.contract (omega arith) a (omega arith) in
         omega arith;
     rooted = λ i w.
         let q = key_point i w in
@@ -217,7 +211,7 @@ module _ (f : specs.Frame) (k : ℕ) (v : FramePoints) (segments keys listed : L
         let t = low q.0 q.1 in
         let p = its_place q.0 q.1 in
         let z : root_of (get_or keys i 0) ≡ place_in segments (segment_of q.0) = ap root_of (sym q.2) ∙
-        root_is (place_in segments (segment_of q.0)) q.0.turns q.0.at q.0.stack (omega arith) a (omega arith) in
+        root_is (place_in segments (segment_of q.0)) q.0.turns q.0.at q.0.stack q.0.contract (omega arith) a (omega arith) in
         let l = p.0 in
         omega arith;
   }

@@ -1,6 +1,7 @@
 -- The list of a row without the assignments of flags that are not live, and with the constant of a kept literal in place of its load.
-use Rattle.std.proofs.Common.{◌≡◌, refl, ap, sym, ◌∙◌, subst, arith, ℕ, ◌<◌, ◌≤◌, ◌^◌, Option, Some, None, Bool, true, false, List, [], ◌∷◌}
-use Rattle.std.specs.Prelude.{if◌then◌else◌, ◌&&◌, nat_lt, ◌↔◌, Contains}
+use Rattle.std.proofs.Common.{◌≡◌, inl, inr, refl, ap, sym, ◌∙◌, subst, arith, ℕ, ◌<◌, ◌≤◌, ◌^◌, Option, Some, None, Bool, true, false, List, [], ◌∷◌}
+use Rattle.std.specs.Prelude.{if◌then◌else◌, ◌&&◌, nat_eq, nat_lt, ◌↔◌, Contains}
+use Rattle.std.specs.List.{list_any}
 use Rattle.std.specs.Global.{Vec}
 use Rattle.word_spec.specs.Memory.{load}
 use Rattle.word_spec.specs.State.{State}
@@ -11,21 +12,25 @@ use Rattle.machine_spec.specs.BilCounts.{byte_loads, byte_stores, other_loads, m
 use Rattle.machine_spec.specs.BilMeaning.{Ending, execute}
 use Rattle.machine_spec.specs.BilStores.{list_stored}
 use Rattle.bilv_spec.specs.Run.{Program, all_kept, literal_target}
-use Rattle.bilv_spec.specs.Points.{file_word, file_number, is_empty}
-use Rattle.bilv_spec.specs.LiveFlags.{IsReadAfter, IsLive}
+use Rattle.bilv_spec.specs.Points.{file_row, file_word, file_number, is_empty}
+use Rattle.bilv_spec.specs.LiveFlags.{IsLive, assigns_by, reads_by, surely_by}
 use Rattle.bil_ast.specs.declared.statements.Stmt.{Stmt}
 use Rattle.bil_ast.specs.Views.{statements}
 use Rattle.graph_nodes.specs.Graphs.{has_flag}
 use Rattle.question_form.specs.Views.{action_of}
-use Rattle.walk_spec.specs.Unrolled.{Carried, Action, Executes, UnrolledPoint, UnrolledProgram, leaving_by, left_by, stored_by, begins, is_register_of, is_flag_of}
-use Rattle.walk_spec.specs.Unrolling.{LeavesAs, IsCounted, IsRunnable, HoldsLiteral, is_variable_of}
+use Rattle.frame_spec.specs.Frames.{Contract, Content}
+use Rattle.frame_spec.specs.FrameUnrolling.{IsCarriedOf, IsRead, IsReadAfter, by_row, later, LeavesAs, IsRunnable, is_variable_of}
+use Rattle.frame_spec.specs.FrameWalk.{Action, Executes, UnrolledPoint, UnrolledProgram, leaving_by, left_by, stored_by}
+use Rattle.walk_spec.specs.Unrolling.{HoldsLiteral}
 use Rattle.bil_trim.specs.Flags.{kept_in, with_flags}
 use Rattle.bil_trim.specs.Literals.{with_literal}
 use Rattle.bil_trim.specs.Parts.{HasNoMore}
 use Rattle.bil_trim.proofs.Quiet.{literals_keep_meaning, nothing_stored}
 use Rattle.bil_trim.proofs.Fewer.{flags_add_nothing}
 use Rattle.bil_trim.proofs.NoMore.{literals_add_nothing, literals_assign_the_same}
-use Rattle.unroller.specs.Rows.{kept_literal, list_with, IsListAt, IsListOf, IsListedAt, ListsDoRows, may_assign_in}
+use Rattle.unroller.specs.Rows.{kept_literal, list_with, CanBeRead, IsCosted, IsListAt, IsListOf, IsListedAt, IsListWith, ListsDoRows, may_assign_in}
+use Rattle.unroller.proofs.ReadFlags.{after_to}
+use Rattle.unroller.proofs.Rows.{begins}
 use Rattle.unroller.proofs.Dropped.{leaves_trimmed, stores_trimmed}
 use Rattle.unroller.proofs.Mixed.{both}
 use Rattle.unroller.proofs.Named.{list_wider}
@@ -75,7 +80,7 @@ more_on a b c x y = record {
 }
 
 module _ (p : Program) (u : UnrolledProgram) (bank : Bank) (q : UnrolledPoint) (row : Row) (lifted list : Statements) (registers : (r : ℕ) →
-    is_register_of u r ≡ p.machine.has_register r) (flags : (f : ℕ) → is_flag_of u f ≡ p.machine.has_flag f)
+    list_any (nat_eq r) u.registers ≡ p.machine.has_register r) (flags : (f : ℕ) → nat_lt f u.flags ≡ p.machine.has_flag f)
     (lifting : IsLifting p.machine bank row q.point.at lifted) (less : HasNoMore list lifted)
     (others : (a : ℕ) → other_loads p.machine.endian a list ≤ other_loads p.machine.endian a lifted)
     (word : (a : ℕ) → kept_literal p (row.literal q.point.at) ≡ Some a → file_number p a < 2 ^ 32) where
@@ -89,7 +94,7 @@ module _ (p : Program) (u : UnrolledProgram) (bank : Bank) (q : UnrolledPoint) (
   no_others a h = let l = others a in let none = (lifting.literal a h).0 in omega arith
 
   -- the list with the constant does the same in a state that has the literal
-  same_end : (o : Option ℕ) → kept_literal p (row.literal q.point.at) ≡ o → (s : State) (c : Carried) (choice : ℕ) → s.pc ≡ q.point.at → c.mem ≡ s.mem →
+  same_end : (o : Option ℕ) → kept_literal p (row.literal q.point.at) ≡ o → (s : State) (c : Content) (choice : ℕ) → s.pc ≡ q.point.at → c.mem ≡ s.mem →
       HoldsLiteral p row s → execute (Put o) choice (begins q c) ≡ execute list choice (begins q c)
   same_end None k s c choice here mem holds = refl
   same_end (Some a) k s c choice here mem holds =
@@ -97,7 +102,7 @@ module _ (p : Program) (u : UnrolledProgram) (bank : Bank) (q : UnrolledPoint) (
       literals_keep_meaning p.machine.endian a (file_number p a) list choice (begins q c) (less.no_loop lifting.no_loop) (no_stores a l.0)
       (ap (λ (m : ℕ → ℕ). load p.machine.endian 4 m a) mem ∙ holds a (ap row.literal here ∙ l.0) l.1) (λ x n. tt)
 
-  same_stored : (o : Option ℕ) → kept_literal p (row.literal q.point.at) ≡ o → (c : Carried) (choice : ℕ) →
+  same_stored : (o : Option ℕ) → kept_literal p (row.literal q.point.at) ≡ o → (c : Content) (choice : ℕ) →
       list_stored (Put o) choice (begins q c) ≡ list_stored list choice (begins q c)
   same_stored None k c choice = refl
   same_stored (Some a) k c choice =
@@ -107,7 +112,7 @@ module _ (p : Program) (u : UnrolledProgram) (bank : Bank) (q : UnrolledPoint) (
       ∙ sym (nothing_stored list choice (begins q c) none)
 
   -- terms can be made of a list with no more than the lifted one
-  runnable_by : (made : Statements) → HasNoMore made lifted → byte_loads made ≤ q.loads → IsCounted p q (Some row) → IsRunnable u q made
+  runnable_by : (made : Statements) → HasNoMore made lifted → byte_loads made ≤ q.loads → IsCosted p q row → IsRunnable u q made
   runnable_by made no_more loads counted = record {
     typed = no_more.typed lifting.typed;
     no_loop = no_more.no_loop lifting.no_loop;
@@ -122,7 +127,7 @@ module _ (p : Program) (u : UnrolledProgram) (bank : Bank) (q : UnrolledPoint) (
     byte_stores = (let a = no_more.stores in let b = lifting.stores in let c = counted.stores in omega arith);
   }
 
-  runnable : (o : Option ℕ) → kept_literal p (row.literal q.point.at) ≡ o → IsCounted p q (Some row) → IsRunnable u q (Put o)
+  runnable : (o : Option ℕ) → kept_literal p (row.literal q.point.at) ≡ o → IsCosted p q row → IsRunnable u q (Put o)
   runnable None k counted =
       runnable_by list less
       (subst (λ (z : ℕ). byte_loads list ≤ z) (sym (counted.loads ∙ loads_full p (row.literal q.point.at) row.cost.loads k))
@@ -132,27 +137,55 @@ module _ (p : Program) (u : UnrolledProgram) (bank : Bank) (q : UnrolledPoint) (
       runnable_by (Put (Some a)) (more_on (Put (Some a)) list lifted law.0 less)
       (subst (λ (z : ℕ). z ≤ q.loads) (sym (law.1 (no_others a (of_kept p (row.literal q.point.at) a k).0))) (omega arith)) counted
 
+-- an assignment stays that is read later
+module _ (p : Program) (bank : Bank) (contracts : List Contract) (always at : ℕ) (row : Row) (list : Statements) (is : file_row p at ≡ Some row)
+    (listed : IsListWith p bank always row at list) where
+  stays_by : CanBeRead contracts always → (f : ℕ) → f < 4 → row.flags.assigns f ≡ true → IsReadAfter p contracts f at → has_flag listed.keeps f ≡ true
+  stays_by (inl none) f few assigns after = listed.live f few (record {
+    assigns = ap (λ (o : Option Row). assigns_by f o) is ∙ assigns;
+    read = after_to p f at (subst (λ (l : List Contract). IsReadAfter p l f at) none after);
+  })
+  stays_by (inr all) f few assigns after = listed.besides f few (all f few)
+
+  read_now : (f : ℕ) → row.flags.reads f ≡ true → IsRead p contracts f at
+  read_now f e = by_row (ap (λ (o : Option Row). reads_by f o) is ∙ e)
+
+  read_later : (f : ℕ) → row.flags.surely f ≡ false → IsReadAfter p contracts f at → IsRead p contracts f at
+  read_later f e r = later (ap (λ (o : Option Row). surely_by f o) is ∙ e) r
+
 pub lists_do_rows : ListsDoRows
-lists_do_rows p u form bank q row list fitted registers flags is lawful listed does long counted =
+lists_do_rows p contracts u form bank always q row list fitted registers flags is lawful listed read does long counted =
     let o = kept_literal p (row.literal q.point.at) in
+    let at = q.point.at in
     let keeps = kept_in listed.keeps in
     let trimmed = with_flags keeps listed.lifted in
     let fewer = flags_add_nothing keeps listed.lifted in
     let others = λ (a : ℕ). fewer.loads p.machine.endian a in
-    let all = does ∙ ap (λ (z : Statements). Executes z) listed.is in (
+    let all = does ∙ ap (λ (z : Statements). Executes z) listed.is in
+    let Reads : ℕ → Type 0 = λ f. IsRead p contracts f at in
+    let After : ℕ → Type 0 = λ f. IsReadAfter p contracts f at in
+    let now = read_now p bank contracts always at row list is listed in
+    let behind = read_later p bank contracts always at row list is listed in
+    let stays = stays_by p bank contracts always at row list is listed read in (
       record {
         length = long;
+        lists = (list, does);
         leaves = λ s c choice state here few holds h.
-            subst (λ (z : Action). LeavesAs (λ f. IsReadAfter p f s.pc) (row.effect s choice) (left_by q choice c z)) (sym all)
-            (subst (λ (z : Ending). LeavesAs (λ f. IsReadAfter p f s.pc) (row.effect s choice) (leaving_by q z))
+            let moved : IsCarriedOf Reads s c = subst (λ (z : ℕ). IsCarriedOf (λ f. IsRead p contracts f z) s c) here h in
+            subst (λ (z : ℕ). LeavesAs (λ f. IsReadAfter p contracts f z) (row.effect s choice) (left_by u q choice c c q.does)) (sym here)
+            (subst (λ (z : Action). LeavesAs After (row.effect s choice) (left_by u q choice c c z)) (sym all)
+            (subst (λ (z : Ending). LeavesAs After (row.effect s choice) (leaving_by q z))
             (sym (same_end p u bank q row listed.lifted trimmed registers flags listed.lifting fewer.no_more others listed.word o refl s c choice here h.mem
             holds))
-            (leaves_trimmed p form bank q row listed.lifted fitted is lawful listed.lifting long listed.keeps listed.live s c choice state here few h));
+            (leaves_trimmed p form bank q row listed.lifted fitted lawful listed.lifting long Reads After now behind listed.keeps stays s c choice state here few
+            moved)));
         stores = λ s c choice state here few holds h a.
-            subst (λ (z : Action). Contains (stored_by q choice c z) a ↔ Contains (addresses (row.stored s)) a) (sym all)
+            let moved : IsCarriedOf Reads s c = subst (λ (z : ℕ). IsCarriedOf (λ f. IsRead p contracts f z) s c) here h in
+            subst (λ (z : Action). Contains (stored_by u q choice c z) a ↔ Contains (addresses (row.stored s)) a) (sym all)
             (subst (λ (z : List ℕ). Contains z a ↔ Contains (addresses (row.stored s)) a)
             (sym (same_stored p u bank q row listed.lifted trimmed registers flags listed.lifting fewer.no_more others listed.word o refl c choice))
-            (stores_trimmed p form bank q row listed.lifted fitted is lawful listed.lifting long listed.keeps listed.live s c choice state here few h a));
+            (stores_trimmed p form bank q row listed.lifted fitted lawful listed.lifting long Reads After now behind listed.keeps stays s c choice state here few
+            moved a));
       },
       subst (λ (z : Statements). IsRunnable u q z) (sym listed.is)
           (runnable p u bank q row listed.lifted trimmed registers flags listed.lifting fewer.no_more others listed.word o refl counted),
@@ -161,6 +194,21 @@ lists_do_rows p u form bank q row list fitted registers flags is lawful listed d
 assigns_with : (p : Program) (f : ℕ) (o : Option ℕ) (list : Statements) → may_assign f (list_with p o list) ≡ may_assign f list
 assigns_with p f None list = refl
 assigns_with p f (Some a) list = literals_assign_the_same p.machine.endian a (file_number p a) f list
+
+-- where none of the flags stays besides, the list is that of the live ones
+live_alone : (p : Program) (bank : Bank) (always : ℕ) (row : Row) (at : ℕ) (list : Statements) → ((f : ℕ) → f < 4 → has_flag always f ≡ false) →
+    IsListWith p bank always row at list → IsListAt p bank row at list
+live_alone p bank always row at list none listed = record {
+  lifted = listed.lifted;
+  lifting = listed.lifting;
+  keeps = listed.keeps;
+  live = λ f few. (
+    (λ h. elim (listed.only f few h) as (λ _. IsLive p f at) [ inl live ↦ live | inr other ↦ absurd (let z = none f few in cc) ]),
+    listed.live f few,
+  );
+  is = listed.is;
+  word = listed.word;
+}
 
 -- the list of a row assigns no flag whose assignment there is not live
 list_is_lean : (p : Program) (bank : Bank) (row : Row) (at f : ℕ) (list : Statements) → IsListAt p bank row at list → f < 4 → may_assign f list ≡ true →
@@ -172,15 +220,16 @@ list_is_lean p bank row at f list listed low h =
     ∙ ap (λ (z : Statements). may_assign f z) (sym listed.is) ∙ h in
     (listed.live f low).0 (both (nat_lt f 4) (has_flag listed.keeps f) (both (keeps f) (may_assign f listed.lifted) kept).0).1
 
-pub code_is_lean : (p : Program) (bank : Bank) (o : Option Row) (at f : ℕ) (list : Option (Vec Stmt)) → IsListedAt p bank o at list → f < 4 →
-    may_assign_in f (action_of list) ≡ true → IsLive p f at
-code_is_lean p bank o at f None listed low h = absurd (cc)
-code_is_lean p bank None at f (Some v) listed low h = absurd listed
-code_is_lean p bank (Some row) at f (Some v) listed low h = list_is_lean p bank row at f (statements v.items) listed low h
+module _ (p : Program) (bank : Bank) (always : ℕ) (none : (f : ℕ) → f < 4 → has_flag always f ≡ false) where
+  pub code_is_lean : (o : Option Row) (at f : ℕ) (list : Option (Vec Stmt)) → IsListedAt p bank always o at list → f < 4 →
+      may_assign_in f (action_of list) ≡ true → IsLive p f at
+  code_is_lean o at f None listed low h = absurd (cc)
+  code_is_lean None at f (Some v) listed low h = absurd listed
+  code_is_lean (Some row) at f (Some v) listed low h =
+      list_is_lean p bank row at f (statements v.items) (live_alone p bank always row at (statements v.items) none listed) low h
 
-pub code_is_listed : (p : Program) (bank : Bank) (o : Option Row) (at : ℕ) (list : Option (Vec Stmt)) → IsListedAt p bank o at list →
-    IsListOf p bank o at (action_of list)
-code_is_listed p bank None at None listed = refl
-code_is_listed p bank None at (Some v) listed = absurd listed
-code_is_listed p bank (Some row) at None listed = absurd listed
-code_is_listed p bank (Some row) at (Some v) listed = listed
+  pub code_is_listed : (o : Option Row) (at : ℕ) (list : Option (Vec Stmt)) → IsListedAt p bank always o at list → IsListOf p bank o at (action_of list)
+  code_is_listed None at None listed = refl
+  code_is_listed None at (Some v) listed = absurd listed
+  code_is_listed (Some row) at None listed = absurd listed
+  code_is_listed (Some row) at (Some v) listed = live_alone p bank always row at (statements v.items) none listed

@@ -1,11 +1,12 @@
 -- A list that names the variables of a machine names those of its unrolled program.
 use Rattle.std.proofs.Common.{◌≡◌, refl, ◌∙◌, ℕ, Bool, true, false}
-use Rattle.std.specs.Prelude.{◌&&◌, ◌||◌}
+use Rattle.std.specs.Prelude.{◌&&◌, ◌||◌, nat_eq, nat_lt}
+use Rattle.std.specs.List.{list_any}
 use Rattle.machine_spec.specs.Machine.{Machine}
 use Rattle.machine_spec.specs.Bil.{Bank, BilVariable, Register, Flag, Mem, Local, Expression, Var, Constant, Load, Store, Binary, Unary, Cast, Let, Unknown, Choose, Extract, Concat, Statements, Empty, Assign, JumpTo, Raise, Special, While, If}
 use Rattle.machine_spec.specs.BilCounts.{names_only, is_local, list_names_only, is_own, is_bank}
-use Rattle.walk_spec.specs.Unrolled.{UnrolledProgram, is_register_of, is_flag_of}
-use Rattle.walk_spec.specs.Unrolling.{is_variable_of}
+use Rattle.frame_spec.specs.FrameUnrolling.{is_variable_of}
+use Rattle.frame_spec.specs.FrameWalk.{UnrolledProgram}
 use Rattle.unroller.proofs.Mixed.{both, all_three, all_four}
 
 pub join : (a b : Bool) → a ≡ true → b ≡ true → (a && b) ≡ true
@@ -54,8 +55,8 @@ all_wider (If e a b rest) k l w h =
     let c = all_four (names_only e k) (list_names_only a k) (list_names_only b k) (list_names_only rest k) h in
     join _ _ (join _ _ (join _ _ (names_wider e k l w c.0) (all_wider a k l w c.1)) (all_wider b k l w c.2)) (all_wider rest k l w c.3)
 
-module _ (m : Machine) (bank : Bank) (u : UnrolledProgram) (registers : (r : ℕ) → is_register_of u r ≡ m.has_register r) (flags : (f : ℕ) →
-    is_flag_of u f ≡ m.has_flag f) where
+module _ (m : Machine) (bank : Bank) (u : UnrolledProgram) (registers : (r : ℕ) → list_any (nat_eq r) u.registers ≡ m.has_register r) (flags : (f : ℕ) →
+    nat_lt f u.flags ≡ m.has_flag f) where
   own_wider : Wider (is_own m bank) (is_variable_of u)
   own_wider (Register b r) h = registers r ∙ (both (is_bank b bank) (m.has_register r) h).1
   own_wider (Flag f) h = flags f ∙ h

@@ -26,15 +26,15 @@ absent xs x i searching up (k, w, e) =
       | inr more ↦ (let z : a ≡ b = omega arith in let s : get_or xs a 0 ≡ get_or xs b 0 = ap (λ (n : ℕ). get_or xs n 0) z in omega arith)
     ]
 
+pub map_append : {X Y : Type 0} (f : X → Y) (us vs : List X) → map f (us ++ vs) ≡ map f us ++ map f vs
+map_append f [] vs = refl
+map_append f (u ∷ us) vs = ap (λ l. f u ∷ l) (map_append f us vs)
+
 -- one more element of a list that is mapped
-pub map_more : {X : Type 0} (f : X → ℕ) (xs : List X) (i : ℕ) (d : X) (ys zs : List ℕ) → i < length xs → ys ≡ map f (take i xs) →
+pub map_more : {X Y : Type 0} (f : X → Y) (xs : List X) (i : ℕ) (d : X) (ys zs : List Y) → i < length xs → ys ≡ map f (take i xs) →
     zs ≡ ys ++ f (get_or xs i d) ∷ [] → zs ≡ map f (take (i + 1) xs)
 map_more f xs i d ys zs w is more =
-    more ∙ ap (λ (l : List ℕ). l ++ f (get_or xs i d) ∷ []) is ∙ sym (map_append f (take i xs) (get_or xs i d ∷ [])) ∙ sym (ap (map f) (take_more xs i d w))
-  where
-    map_append : {X : Type 0} (f : X → ℕ) (us vs : List X) → map f (us ++ vs) ≡ map f us ++ map f vs
-    map_append f [] vs = refl
-    map_append f (u ∷ us) vs = ap (λ (l : List ℕ). f u ∷ l) (map_append f us vs)
+    more ∙ ap (λ l. l ++ f (get_or xs i d) ∷ []) is ∙ sym (map_append f (take i xs) (get_or xs i d ∷ [])) ∙ sym (ap (map f) (take_more xs i d w))
 
 place_by_head : (y x : ℕ) (ys : List ℕ) (b : Bool) → b ≡ true → 0 ≡ (if b then 0 else suc (place_in ys x))
 place_by_head y x ys true h = refl
@@ -44,7 +44,7 @@ place_by_tail : (i x : ℕ) (ys : List ℕ) (b : Bool) → b ≡ false → i ≡
 place_by_tail i x ys true h e = absurd (cc)
 place_by_tail i x ys false h e = ap suc e
 
-same_test : (y x : ℕ) → y ≡ x → (y == x) ≡ true
+pub same_test : (y x : ℕ) → y ≡ x → (y == x) ≡ true
 same_test y x e = grind (arith, nat_tests)
 
 other_test : (y x : ℕ) → y < x → (y == x) ≡ false

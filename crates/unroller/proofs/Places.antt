@@ -1,24 +1,24 @@
 -- Points that are placed one by one.
-use Rattle.std.proofs.Common.{◌≡◌, inl, inr, refl, ap, sym, ◌∙◌, subst, arith, ℕ, zero, suc, ◌+◌, ◌-◌, ◌<◌, ◌≤◌, Bool, true, false, Option, List, [], ◌∷◌, ◌++◌, length, get_or, take, drop}
+use Rattle.std.proofs.Common.{◌≡◌, inl, inr, refl, ap, sym, ◌∙◌, subst, arith, ℕ, zero, suc, ◌+◌, ◌-◌, ◌<◌, ◌≤◌, Bool, true, false, Option, None, List, [], ◌∷◌, ◌++◌, length, get_or, take, drop}
 use Rattle.std.specs.Prelude.{Contains, slice_range, ◌==◌, ◌&&◌, if◌then◌else◌}
 use Rattle.std.specs.List.{AllZip}
 use Rattle.std.proofs.Math.ListN.{length-append}
 use Rattle.std.proofs.lemmas.Bool.{cases_lt}
-use Rattle.graph_nodes.specs.declared.nodes.Node.{Node}
 use Rattle.graph_nodes.specs.declared.nodes.Graph.{Graph}
 use Rattle.program_points.specs.declared.values.Frame.{Frame}
 use Rattle.program_points.proofs.Lists.{take_whole, or_left, or_last, grown as push_length, longer}
 use Rattle.program_points.specs.declared.values.End.{End}
 use Rattle.program_points.specs.Tables as tables
-use Rattle.program_points.specs.Tables.{frame_at, jumps_of}
+use Rattle.program_points.specs.Tables.{frame_at, jumps_of, linked, listed, return_end}
 use Rattle.bilv_spec.proofs.PointsInGraph.{none_in, split_in}
 use Rattle.question_form.specs.declared.unrolled.Aim.{Aim}
 use Rattle.question_form.specs.declared.unrolled.Aim.TheVariants.{OnTo, IntoHead, Outward, OverLast}
+use Rattle.question_form.specs.declared.unrolled.Deed.{Deed}
+use Rattle.question_form.specs.declared.unrolled.Deed.TheVariants.{Row, Arrival, Contract}
 use Rattle.question_form.specs.declared.unrolled.Edge.{Edge}
 use Rattle.question_form.specs.declared.unrolled.Point.{Point}
 use Rattle.unroller.specs.Keys.{address_of, root_of, stack_of, turns_of, IsAimAt}
-use Rattle.unroller.specs.Places.{deed_by}
-use Rattle.unroller.specs.Led.{next_of, is_both, exit_edge, exits_by, IsAimFor, IsLedTo, AreLed, begins_at, is_arrival, IsLeft, AreLeft, IsPlacedAt, ArePlaced}
+use Rattle.unroller.specs.Led.{next_of, is_both, exit_edge, exits_by, IsAimFor, IsLedTo, AreLed, begins_at, deed_at, IsCoded, IsLeft, AreLeft, IsPlacedAt, ArePlaced}
 
 take_left : {X : Type 0} (xs ys : List X) (n : ℕ) → n ≤ length xs → take n (xs ++ ys) ≡ take n xs
 take_left [] ys zero le = refl
@@ -86,42 +86,44 @@ exit_for heads asserts true e (zero, l, q) = subst (λ (b : Edge). IsAimFor head
 exit_for heads asserts true e (suc i, l, q) = absurd (omega (arith, l))
 exit_for heads asserts false e (i, l, q) = absurd (omega (arith, l))
 
-led_for : (heads : List ℕ) (asserts : List (ℕ × ℕ)) (narrow : Bool) (n : Node) (frames : List Frame) (keys : List ℕ) (own number : ℕ) (led : List Edge) →
-    AreLed heads asserts narrow n frames keys own number led → (e : Edge) → Contains led e → IsAimFor heads asserts e.aim
-led_for heads asserts narrow n frames keys own number led are e h =
-    elim (split_in (exits_by n.returns (stack_of own)) are.rest e (subst (λ (l : List Edge). Contains l e) are.is h)) as (λ _. IsAimFor heads asserts e.aim) [
-      | inl q ↦ exit_for heads asserts (n.returns && (stack_of own == 0)) e q
-      | inr q ↦ rest_for heads asserts keys (next_of n (stack_of own))
-          (is_both (jumps_of narrow n (frame_at frames (stack_of own)) (stack_of own) number) (next_of n (stack_of own))) are.targets are.rest are.each e q
+led_for : (heads stepped : List ℕ) (asserts : List (ℕ × ℕ)) (keys : List ℕ) (own : ℕ) (linked : Option ℕ) (jumps : List End) (next : Option End) (exits : Bool)
+    (led : List Edge) → AreLed heads stepped asserts keys own linked jumps next exits led → (e : Edge) → Contains led e → IsAimFor heads asserts e.aim
+led_for heads stepped asserts keys own linked jumps next exits led are e h =
+    elim (split_in (exits_by exits) are.rest e (subst (λ (l : List Edge). Contains l e) are.is h)) as (λ _. IsAimFor heads asserts e.aim) [
+      | inl q ↦ exit_for heads asserts exits e q
+      | inr q ↦ rest_for heads asserts keys next (is_both jumps next) are.targets are.rest are.each e q
     ]
 
-left_for : (arrival : Bool) (g : Graph) (heads : List ℕ) (asserts : List (ℕ × ℕ)) (frames : List Frame) (keys : List ℕ) (own number : ℕ) (led : List Edge) →
-    IsLeft arrival g heads asserts frames keys own number led → (e : Edge) → Contains led e → IsAimFor heads asserts e.aim
-left_for true g heads asserts frames keys own number led is e h = none_in e (subst (λ (l : List Edge). Contains l e) is h)
-left_for false g heads asserts frames keys own number led is e h = led_for heads asserts g.narrow is.0 frames keys own number led is.3 e h
+left_for : (deed : Deed) (g : Graph) (heads stepped : List ℕ) (asserts : List (ℕ × ℕ)) (frames : List Frame) (keys : List ℕ) (own number : ℕ)
+    (led : List Edge) → IsLeft deed g heads stepped asserts frames keys own number led → (e : Edge) → Contains led e → IsAimFor heads asserts e.aim
+left_for Row g heads stepped asserts frames keys own number led is e h =
+    led_for heads stepped asserts keys own (linked is.0.links number) (jumps_of g.narrow is.0 (frame_at frames (stack_of own)) (stack_of own) number)
+    (next_of is.0 (stack_of own)) (is.0.returns && (stack_of own == 0)) led is.3 e h
+left_for Arrival g heads stepped asserts frames keys own number led is e h = none_in e (subst (λ (l : List Edge). Contains l e) is h)
+left_for (Contract n) g heads stepped asserts frames keys own number led is e h =
+    led_for heads stepped asserts keys own None (listed (return_end g.narrow (frame_at frames (stack_of own)))) None false led is e h
 
-module _ (g : Graph) (heads : List ℕ) (asserts : List (ℕ × ℕ)) (frames : List Frame) (keys addresses called : List ℕ) where
+module _ (g : Graph) (heads stepped : List ℕ) (asserts : List (ℕ × ℕ)) (frames : List Frame) (keys rows steps called : List ℕ) where
   kept : (key number : ℕ) (q : Point) (bound new_bound : ℕ) (edges led grown : List Edge) → grown ≡ edges ++ led → new_bound ≡ bound →
-      IsPlacedAt g heads asserts frames keys addresses key number q bound edges
-      → IsPlacedAt g heads asserts frames keys addresses key number q new_bound grown
+      IsPlacedAt g heads stepped asserts frames keys rows steps key number q bound edges
+      → IsPlacedAt g heads stepped asserts frames keys rows steps key number q new_bound grown
   kept key number q bound new_bound edges led grown is same at =
       let long = longer edges led grown is in
       let within = at.within in
-      subst (λ (z : ℕ). IsPlacedAt g heads asserts frames keys addresses key number q z grown) (sym same) (record {
+      subst (λ (z : ℕ). IsPlacedAt g heads stepped asserts frames keys rows steps key number q z grown) (sym same) (record {
         root = at.root;
         turns = at.turns;
         stack = at.stack;
-        coded = at.coded;
-        code = at.code;
         deed = at.deed;
+        code = at.code;
         ordered = at.ordered;
         within = omega arith;
         led =
-            subst (λ (l : List Edge). IsLeft (is_arrival heads key) g heads asserts frames keys key number l)
+            subst (λ (l : List Edge). IsLeft (deed_at heads stepped key) g heads stepped asserts frames keys key number l)
             (sym (ap (λ (l : List Edge). slice_range l q.edges bound) is ∙ slice_left edges led q.edges bound at.ordered at.within)) at.led;
       })
 
-  pub placed_none : (points : List Point) (edges : List Edge) → points ≡ [] → edges ≡ [] → ArePlaced g heads asserts frames keys addresses called 0 points edges
+  pub placed_none : (points : List Point) (edges : List Edge) → points ≡ [] → edges ≡ [] → ArePlaced g heads stepped asserts frames keys rows steps called 0 points edges
   placed_none points edges e f = record {
     count = ap length e;
     each = λ i d w. absurd (omega arith);
@@ -129,17 +131,18 @@ module _ (g : Graph) (heads : List ℕ) (asserts : List (ℕ × ℕ)) (frames : 
   }
 
   pub placed_more : (i : ℕ) (points more : List Point) (edges grown : List Edge) (q : Point) →
-      ArePlaced g heads asserts frames keys addresses called i points edges → more ≡ points ++ q ∷ [] →
-      q.root ≡ root_of (get_or keys i 0) → q.turns ≡ turns_of (get_or keys i 0) → q.stack ≡ stack_of (get_or keys i 0) → q.code < length addresses →
-      get_or addresses q.code 0 ≡ address_of (get_or keys i 0) → q.deed ≡ deed_by (is_arrival heads (get_or keys i 0)) → q.edges ≡ length edges →
-      AreLeft (is_arrival heads (get_or keys i 0)) g heads asserts frames keys (get_or keys i 0) (get_or called i 0) edges grown →
-      ArePlaced g heads asserts frames keys addresses called (i + 1) more grown
-  placed_more i points more edges grown q are is root turns stack coded code deed begin led =
+      ArePlaced g heads stepped asserts frames keys rows steps called i points edges → more ≡ points ++ q ∷ [] →
+      q.root ≡ root_of (get_or keys i 0) → q.turns ≡ turns_of (get_or keys i 0) → q.stack ≡ stack_of (get_or keys i 0) →
+      q.deed ≡ deed_at heads stepped (get_or keys i 0) → IsCoded (deed_at heads stepped (get_or keys i 0)) rows steps (address_of (get_or keys i 0)) q.code →
+      q.edges ≡ length edges →
+      AreLeft (deed_at heads stepped (get_or keys i 0)) g heads stepped asserts frames keys (get_or keys i 0) (get_or called i 0) edges grown →
+      ArePlaced g heads stepped asserts frames keys rows steps called (i + 1) more grown
+  placed_more i points more edges grown q are is root turns stack deed code begin led =
       let count = are.count in
       let long = longer edges led.0 grown led.1 in
       record {
         count = (let a = push_length points more q is in omega arith);
-        each = λ j d w. elim (cases_lt j i) as (λ _. IsPlacedAt g heads asserts frames keys addresses (get_or keys j 0) (get_or called j 0) (get_or more j d)
+        each = λ j d w. elim (cases_lt j i) as (λ _. IsPlacedAt g heads stepped asserts frames keys rows steps (get_or keys j 0) (get_or called j 0) (get_or more j d)
             (begins_at grown (drop (j + 1) more)) grown) [
               | inl low ↦
                   let inside : j < length points = omega arith in
@@ -148,7 +151,7 @@ module _ (g : Graph) (heads : List ℕ) (asserts : List (ℕ × ℕ)) (frames : 
                   ap (λ (l : List Point). begins_at grown (drop (j + 1) l)) is ∙ ap (λ (z : ℕ). begins_at grown (drop z (points ++ q ∷ []))) (sym next)
                   ∙ begins_keep edges grown q points j inside begin ∙ ap (λ (z : ℕ). begins_at edges (drop z points)) next in
                   let same : get_or more j d ≡ get_or points j d = ap (λ (l : List Point). get_or l j d) is ∙ or_left points (q ∷ []) j d inside in
-                  subst (λ (z : Point). IsPlacedAt g heads asserts frames keys addresses (get_or keys j 0) (get_or called j 0) z (begins_at grown (drop (j
+                  subst (λ (z : Point). IsPlacedAt g heads stepped asserts frames keys rows steps (get_or keys j 0) (get_or called j 0) z (begins_at grown (drop (j
                   + 1) more)) grown)
                   (sym same)
                   (kept (get_or keys j 0) (get_or called j 0) (get_or points j d) (begins_at edges (drop (j + 1) points))
@@ -162,28 +165,27 @@ module _ (g : Graph) (heads : List ℕ) (asserts : List (ℕ × ℕ)) (frames : 
                   let slice : slice_range grown q.edges (length grown) ≡ led.0 =
                   ap (λ (z : ℕ). slice_range grown z (length grown)) begin ∙ ap
                   (λ (l : List Edge). slice_range l (length edges) (length l)) led.1 ∙ slice_right edges led.0 in
-                  subst (λ (z : ℕ). IsPlacedAt g heads asserts frames keys addresses (get_or keys z 0) (get_or called z 0) (get_or more z d)
+                  subst (λ (z : ℕ). IsPlacedAt g heads stepped asserts frames keys rows steps (get_or keys z 0) (get_or called z 0) (get_or more z d)
                   (begins_at grown (drop (z + 1) more)) grown) (sym here)
-                  (subst (λ (z : Point). IsPlacedAt g heads asserts frames keys addresses (get_or keys i 0) (get_or called i 0) z (begins_at grown (drop (i
+                  (subst (λ (z : Point). IsPlacedAt g heads stepped asserts frames keys rows steps (get_or keys i 0) (get_or called i 0) z (begins_at grown (drop (i
                   + 1) more)) grown)
                   (sym last)
-                  (subst (λ (z : ℕ). IsPlacedAt g heads asserts frames keys addresses (get_or keys i 0) (get_or called i 0) q z grown) (sym bound) (record {
+                  (subst (λ (z : ℕ). IsPlacedAt g heads stepped asserts frames keys rows steps (get_or keys i 0) (get_or called i 0) q z grown) (sym bound) (record {
                     root = root;
                     turns = turns;
                     stack = stack;
-                    coded = coded;
-                    code = code;
                     deed = deed;
+                    code = code;
                     ordered = (let b = begin in omega arith);
                     within = omega arith;
                     led =
-                        subst (λ (l : List Edge). IsLeft (is_arrival heads (get_or keys i 0)) g heads asserts frames keys (get_or keys i 0) (get_or called
-                        i 0) l)
+                        subst (λ (l : List Edge). IsLeft (deed_at heads stepped (get_or keys i 0)) g heads stepped asserts frames keys (get_or keys i 0)
+                        (get_or called i 0) l)
                         (sym slice) led.2;
                   })))
             ];
         aims = λ e h. elim (split_in edges led.0 e (subst (λ (l : List Edge). Contains l e) led.1 h)) as (λ _. IsAimFor heads asserts e.aim) [
           | inl z ↦ are.aims e z
-          | inr z ↦ left_for (is_arrival heads (get_or keys i 0)) g heads asserts frames keys (get_or keys i 0) (get_or called i 0) led.0 led.2 e z
+          | inr z ↦ left_for (deed_at heads stepped (get_or keys i 0)) g heads stepped asserts frames keys (get_or keys i 0) (get_or called i 0) led.0 led.2 e z
         ];
       }

@@ -1,6 +1,6 @@
 -- The first points of segments are among the points.
 use Rattle.std.proofs.Common.{◌≡◌, refl, ap, sym, ◌∙◌, arith, ℕ, ◌<◌, ◌≤◌, Option, Some, None, List, length, get_or}
-use Rattle.std.specs.Prelude.{Contains, false}
+use Rattle.std.specs.Prelude.{Bool, Contains, false}
 use Rattle.std.specs.BTreeMap.{BTreeMap}
 use Rattle.std.proofs.lemmas.List.{get_or_default}
 use Rattle.frame_spec.specs.Frames as specs
@@ -11,13 +11,13 @@ use Rattle.program_points.specs.declared.values.Root.{Root}
 use Rattle.program_points.specs.Listed.{anchor_of}
 use Rattle.program_points.specs.Tables.{is_root_within, stack_at, stacks_of, IsTable}
 use Rattle.program_points.proofs.Stacked.{stack_none}
-use Rattle.unroller.specs.Keys.{address_of, root_of, stack_of, turns_of, head_of, anchor_by, point_of, AreKeys, AreSegments}
+use Rattle.unroller.specs.Keys.{address_of, contract_of, root_of, stack_of, turns_of, head_of, anchor_by, point_of, AreKeys, AreSegments}
 use Rattle.unroller.specs.Roots.{first_key}
-use Rattle.unroller.proofs.Numbered.{root_is, turns_is, address_is, stack_is}
+use Rattle.unroller.proofs.Numbered.{root_is, turns_is, address_is, stack_is, contract_is}
 use Rattle.unroller.proofs.SameKeys.{same_key}
 
 module _ (f : specs.Frame) (k : ℕ) (frames : List Frame) (numbers : BTreeMap (ℕ × ℕ) ℕ) (segments keys : List ℕ) (entry : ℕ) (table : IsTable frames numbers)
-    (few : length frames < 4294967296) (segs : AreSegments f k frames segments) (are : AreKeys f k frames segments keys) (begins : f.program.entry ≡ entry)
+    (few : length frames < 2147483648) (segs : AreSegments f k frames segments) (are : AreKeys f k frames segments keys) (begins : f.program.entry ≡ entry)
   where
     abbrev key : ℕ → ℕ
     key n = first_key entry n (head_of (get_or segments n 0))
@@ -41,25 +41,28 @@ module _ (f : specs.Frame) (k : ℕ) (frames : List Frame) (numbers : BTreeMap (
       turns : turns_of (first_key entry n o) ≡ 0
       stack : stack_at frames (stack_of (first_key entry n o)) ≡ (first_of entry (anchor_of (stacks_of frames) o)).stack
       at : address_of (first_key entry n o) ≡ (first_of entry (anchor_of (stacks_of frames) o)).at
+      step : contract_of (first_key entry n o) ≡ false
 
     is_first : (n : ℕ) (o : Option Root) → is_root_within (length frames) o → (first_of entry (anchor_of (stacks_of frames) o)).at < 4294967296 → IsFirst n o
     is_first n None w h =
-        let s = stack_is n 0 entry 0 (omega arith) h (omega arith) in
+        let s = stack_is n 0 entry 0 false (omega arith) h (omega arith) in
         record {
-          root = root_is n 0 entry 0 (omega arith) h (omega arith);
+          root = root_is n 0 entry 0 false (omega arith) h (omega arith);
           fits = omega arith;
-          turns = turns_is n 0 entry 0 (omega arith) h (omega arith);
+          turns = turns_is n 0 entry 0 false (omega arith) h (omega arith);
           stack = ap (stack_at frames) s ∙ stack_none frames;
-          at = address_is n 0 entry 0 (omega arith) h (omega arith);
+          at = address_is n 0 entry 0 false (omega arith) h (omega arith);
+          step = contract_is n 0 entry 0 false;
         }
     is_first n (Some r) w h =
-        let s = stack_is n 0 r.at r.stack (omega arith) h (omega arith) in
+        let s = stack_is n 0 r.at r.stack false (omega arith) h (omega arith) in
         record {
-          root = root_is n 0 r.at r.stack (omega arith) h (omega arith);
+          root = root_is n 0 r.at r.stack false (omega arith) h (omega arith);
           fits = omega arith;
-          turns = turns_is n 0 r.at r.stack (omega arith) h (omega arith);
+          turns = turns_is n 0 r.at r.stack false (omega arith) h (omega arith);
           stack = ap (stack_at frames) s;
-          at = address_is n 0 r.at r.stack (omega arith) h (omega arith);
+          at = address_is n 0 r.at r.stack false (omega arith) h (omega arith);
+          step = contract_is n 0 r.at r.stack false;
         }
 
     first_is : (n : ℕ) → n < length segments → IsFirst n (head_of (get_or segments n 0))
@@ -88,26 +91,31 @@ module _ (f : specs.Frame) (k : ℕ) (frames : List Frame) (numbers : BTreeMap (
         ap (λ (z : ℕ). let y : spec.Point = record {
           anchor = anchor_by frames segments z;
           turns = turns_of (key n);
-          contract = false;
+          contract = contract_of (key n);
           stack = stack_at frames (stack_of (key n));
           at = address_of (key n);
         } in y) x.root
         ∙ ap (λ (z : ℕ). let y : spec.Point = record {
           anchor = anchor_by frames segments n;
           turns = z;
-          contract = false;
+          contract = contract_of (key n);
           stack = stack_at frames (stack_of (key n));
           at = address_of (key n);
         } in y) x.turns
+        ∙ ap (λ (z : Bool). let y : spec.Point = record {
+          anchor = anchor_by frames segments n;
+          turns = 0;
+          contract = z;
+          stack = stack_at frames (stack_of (key n));
+          at = address_of (key n);
+        } in y) x.step
         ∙ ap (λ (z : List ℕ). let y : spec.Point = record {
           anchor = anchor_by frames segments n;
           turns = 0;
           contract = false;
           stack = z;
-          at = address_of
-              (key n);
-        } in y)
-        x.stack
+          at = address_of (key n);
+        } in y) x.stack
         ∙ ap (λ (z : ℕ). let y : spec.Point = record { anchor = anchor_by frames segments n; turns = 0; contract = false; stack = to.stack; at = z } in y) x.at
         ∙ sym (of_anchor o)
 

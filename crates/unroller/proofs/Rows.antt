@@ -1,5 +1,5 @@
 -- The list of a lawful row as it is lifted does what the row does, as far as it is read later.
-use Rattle.std.proofs.Common.{◌≡◌, refl, ap, sym, ◌∙◌, subst, arith, ℕ, zero, suc, ◌<◌, ◌≤◌, Option, Some, None, Bool, true, false, List}
+use Rattle.std.proofs.Common.{◌≡◌, refl, ap, sym, ◌∙◌, subst, arith, ℕ, zero, suc, ◌<◌, ◌≤◌, Option, None, Bool, true, false, List}
 use Rattle.std.specs.Prelude.{if◌then◌else◌, ◌==◌, nat_lt, ◌↔◌, Contains, length}
 use Rattle.std.proofs.lemmas.Bool.Decides.{nat_tests}
 use mathlib.Core.Path.{fun_ext}
@@ -15,12 +15,16 @@ use Rattle.machine_spec.specs.BilMeaning.{Stuck, Position, Ending, Ends, RaisesE
 use Rattle.machine_spec.specs.BilStores.{list_stored}
 use Rattle.machine_spec.specs.Simulation.{position, jump_of, Finished, Raised, of_list, of_row}
 use Rattle.bilv_spec.specs.Run.{Program}
-use Rattle.bilv_spec.specs.Points.{file_row}
-use Rattle.bilv_spec.specs.LiveFlags.{IsRead, by_row, later, IsReadAfter, reads_by, surely_by}
-use Rattle.walk_spec.specs.Unrolled.{Carried, state_at, UnrolledPoint, Leaving, GoesOn, RaisesOne, IsStuck, leaving_by, begins}
-use Rattle.walk_spec.specs.Unrolled as walk
-use Rattle.walk_spec.specs.Unrolling.{IsCarriedOf, jumps, LeavesAs}
+use Rattle.frame_spec.specs.Frames.{Content, content_at}
+use Rattle.frame_spec.specs.FrameUnrolling.{IsCarriedOf, LeavesAs}
+use Rattle.frame_spec.specs.FrameWalk as walk
+use Rattle.frame_spec.specs.FrameWalk.{UnrolledPoint, Leaving, GoesOn, RaisesOne, IsStuck, leaving_by}
+use Rattle.walk_spec.specs.Unrolling.{jumps}
 use Rattle.unroller.proofs.Mixed.{mix_end, list_same, list_stores_same}
+
+-- where the list of a point begins
+abbrev pub begins : UnrolledPoint → Content → Position
+begins q c = position (λ x t. Stuck) 0 None (content_at c q.point.at)
 
 -- a lawful row surely assigns no flag that no machine has
 not_sure : (row : Row) → IsLawful row → (f : ℕ) → 4 ≤ f → (b : Bool) → row.flags.surely f ≡ b → row.flags.surely f ≡ false
@@ -39,11 +43,13 @@ same_state : (s : State) (i v : ℕ) → v ≡ s.flags i → with_flag s i v ≡
 same_state s i v is = ap (λ (z : ℕ → ℕ). let r : State = record { pc = s.pc; regs = s.regs; flags = z; mem = s.mem } in r) (fun_ext
     (λ x. put_same_value s.flags i v x (x == i) refl is))
 
-module _ (p : Program) (row : Row) (at : ℕ) (is : file_row p at ≡ Some row) (lawful : IsLawful row) where
+-- what is read at the row, and after it
+module _ (row : Row) (lawful : IsLawful row) (Reads After : ℕ → Type 0) (read_now : (i : ℕ) → row.flags.reads i ≡ true → Reads i)
+    (read_later : (i : ℕ) → row.flags.surely i ≡ false → After i → Reads i) where
   -- two outcomes are the same as far as is read later
   abbrev Alike : Outcome → Outcome → Type 0
   Alike (Goes how s) (Goes other t) = (how ≡ other) × (s.pc ≡ t.pc) × (s.regs ≡ t.regs) × (s.mem ≡ t.mem) ×
-      ((f : ℕ) → IsReadAfter p f at → s.flags f ≡ t.flags f)
+      ((f : ℕ) → After f → s.flags f ≡ t.flags f)
   Alike (Raises d) (Raises e) = d ≡ e
   Alike (Goes how s) (Raises e) = ⊥
   Alike (Raises e) (Goes how s) = ⊥
@@ -68,26 +74,20 @@ module _ (p : Program) (row : Row) (at : ℕ) (is : file_row p at ≡ Some row) 
   flag_cases s t i f true e agree same = let here : f ≡ i = grind arith in ap s.flags here ∙ same ∙ ap t.flags (sym here)
   flag_cases s t i f false e agree same = agree.flags f (λ x. let d : (f == i) ≡ true = grind arith in cc)
 
-  other_flag : (s t : State) (i f : ℕ) (b : Bool) → (f == i) ≡ b → AgreeBut i s t → (IsReadAfter p i at → s.flags i ≡ t.flags i) → IsReadAfter p f at →
+  other_flag : (s t : State) (i f : ℕ) (b : Bool) → (f == i) ≡ b → AgreeBut i s t → (After i → s.flags i ≡ t.flags i) → After f →
       s.flags f ≡ t.flags f
   other_flag s t i f true e agree same r = let here : f ≡ i = grind arith
-      in flag_cases s t i f true e agree (same (subst (λ (z : ℕ). IsReadAfter p z at) here r))
+      in flag_cases s t i f true e agree (same (subst (λ (z : ℕ). After z) here r))
   other_flag s t i f false e agree same r = agree.flags f (λ x. let d : (f == i) ≡ true = grind arith in cc)
 
-  differ : (i : ℕ) (o q : Outcome) → OutcomesAgreeBut i o q → (IsReadAfter p i at → HaveSameFlag i o q) → Alike o q
+  differ : (i : ℕ) (o q : Outcome) → OutcomesAgreeBut i o q → (After i → HaveSameFlag i o q) → Alike o q
   differ i (Goes how s) (Goes other t) h same = (h.0, h.1.pc, h.1.regs, h.1.mem, λ f r. other_flag s t i f (f == i) refl h.1 same r)
   differ i (Raises d) (Raises e) h same = h
   differ i (Goes how s) (Raises e) h same = absurd h
   differ i (Raises e) (Goes how s) h same = absurd h
 
-  read_now : (i : ℕ) → row.flags.reads i ≡ true → IsRead p i at
-  read_now i e = by_row (ap (λ (o : Option Row). reads_by i o) is ∙ e)
-
-  read_later : (i : ℕ) → row.flags.surely i ≡ false → IsReadAfter p i at → IsRead p i at
-  read_later i e r = later (ap (λ (o : Option Row). surely_by i o) is ∙ e) r
-
-  module _ (s : State) (i v : ℕ) (low : i < 4) (agrees : IsRead p i at → v ≡ s.flags i) where
-    sure_case : (c : ℕ) (b : Bool) → row.flags.surely i ≡ b → row.flags.reads i ≡ false → IsReadAfter p i at →
+  module _ (s : State) (i v : ℕ) (low : i < 4) (agrees : Reads i → v ≡ s.flags i) where
+    sure_case : (c : ℕ) (b : Bool) → row.flags.surely i ≡ b → row.flags.reads i ≡ false → After i →
         HaveSameFlag i (row.effect s c) (row.effect (with_flag s i v) c)
     sure_case c true e n r = lawful.sure s c i v low n e
     sure_case c false e n r =
@@ -113,7 +113,7 @@ module _ (p : Program) (row : Row) (at : ℕ) (is : file_row p at ≡ Some row) 
   abbrev lower : State → (ℕ → ℕ) → State
   lower s g = with_flag (with_flag (with_flag (with_flag s 0 (g 0)) 1 (g 1)) 2 (g 2)) 3 (g 3)
 
-  lower_step : (s : State) (g : ℕ → ℕ) → ((f : ℕ) → IsRead p f at → g f ≡ s.flags f) → (c : ℕ) → Alike (row.effect s c) (row.effect (lower s g) c)
+  lower_step : (s : State) (g : ℕ → ℕ) → ((f : ℕ) → Reads f → g f ≡ s.flags f) → (c : ℕ) → Alike (row.effect s c) (row.effect (lower s g) c)
   lower_step s g agrees c =
       let a = with_flag s 0 (g 0) in
       let b = with_flag a 1 (g 1) in
@@ -123,7 +123,7 @@ module _ (p : Program) (row : Row) (at : ℕ) (is : file_row p at ≡ Some row) 
       (alike_on (row.effect b c) (row.effect d c) (row.effect (lower s g) c) (flag_step b 2 (g 2) (omega arith) (agrees 2) c)
       (flag_step d 3 (g 3) (omega arith) (agrees 3) c)))
 
-  lower_stores : (s : State) (g : ℕ → ℕ) → ((f : ℕ) → IsRead p f at → g f ≡ s.flags f) → row.stored s ≡ row.stored (lower s g)
+  lower_stores : (s : State) (g : ℕ → ℕ) → ((f : ℕ) → Reads f → g f ≡ s.flags f) → row.stored s ≡ row.stored (lower s g)
   lower_stores s g agrees =
       let a = with_flag s 0 (g 0) in
       let b = with_flag a 1 (g 1) in
@@ -180,7 +180,7 @@ of_ends : (a b : Position) → Ends a ≡ Ends b → a ≡ b
 of_ends a b h = cc
 
 -- how a point is left after a list that ended as a row goes on
-module _ (reads : ℕ → Type 0) (q : UnrolledPoint) (how : How) (new : State) (c : Carried) (is : IsCarriedOf reads new c) where
+module _ (reads : ℕ → Type 0) (q : UnrolledPoint) (how : How) (new : State) (c : Content) (is : IsCarriedOf reads new c) where
   left_as : (h : How) → (h ≡ On → new.pc ≡ add 32 q.point.at q.length) → LeavesAs reads (Goes h new) (walk.goes_on q (jump_of h new) c)
   left_as On next = (refl, sym (next refl), is)
   left_as Direct next = (refl, refl, is)
@@ -188,26 +188,23 @@ module _ (reads : ℕ → Type 0) (q : UnrolledPoint) (how : How) (new : State) 
   left_as Indirect next = (refl, refl, is)
   left_as IndirectCall next = (refl, refl, is)
 
-carried_over : (reads : ℕ → Type 0) (s t : State) (c : Carried) → s.pc ≡ t.pc → s.regs ≡ t.regs → s.mem ≡ t.mem → ((f : ℕ) → reads f → s.flags f ≡ t.flags f) →
+carried_over : (reads : ℕ → Type 0) (s t : State) (c : Content) → s.pc ≡ t.pc → s.regs ≡ t.regs → s.mem ≡ t.mem → ((f : ℕ) → reads f → s.flags f ≡ t.flags f) →
     IsCarriedOf reads t c → IsCarriedOf reads s c
 carried_over reads s t c pc regs mem flags h = record {
-  state = subst (λ (z : ℕ). IsState (state_at c z)) (sym pc) h.state;
+  state = subst (λ (z : ℕ). IsState (content_at c z)) (sym pc) h.state;
   regs = h.regs ∙ sym regs;
   mem = h.mem ∙ sym mem;
   flags = λ f r. h.flags f r ∙ sym (flags f r);
 }
 
 module _ (p : Program) (form : Layout) (bank : Bank) (q : UnrolledPoint) (row : Row) (list : Statements) (fitted : IsFitted p.machine form)
-    (is : file_row p q.point.at ≡ Some row) (lawful : IsLawful row) (lifting : IsLifting p.machine bank row q.point.at list)
-    (long : q.length ≡ row.length) where
+    (lawful : IsLawful row) (lifting : IsLifting p.machine bank row q.point.at list) (long : q.length ≡ row.length) (Reads After : ℕ → Type 0)
+    (read_now : (i : ℕ) → row.flags.reads i ≡ true → Reads i) (read_later : (i : ℕ) → row.flags.surely i ≡ false → After i → Reads i) where
   own_low : (f : ℕ) → is_own p.machine bank (bil.Flag f) ≡ true → low_flag f ≡ true
   own_low f h = let e : nat_lt f (length form.flags) ≡ true = sym (fitted.flags f) ∙ h in let few = fitted.few_flags in grind (arith, nat_tests)
 
-  abbrev After : ℕ → Type 0
-  After f = IsReadAfter p f q.point.at
-
   module _ (s : State) (g : ℕ → ℕ) (choice : ℕ) (state : IsState s) (here : s.pc ≡ q.point.at) (few : choice < 4) (flags : (f : ℕ) →
-      g f < 2) (agrees : (f : ℕ) → IsRead p f q.point.at → g f ≡ s.flags f) where
+      g f < 2) (agrees : (f : ℕ) → Reads f → g f ≡ s.flags f) where
     abbrev s4 : State
     s4 = with_flag (with_flag (with_flag (with_flag s 0 (g 0)) 1 (g 1)) 2 (g 2)) 3 (g 3)
 
@@ -251,7 +248,7 @@ module _ (p : Program) (form : Layout) (bank : Bank) (q : UnrolledPoint) (row : 
         ap (λ (h : ℕ → ℕ). list_stored list choice (start (record { pc = s.pc; regs = s.regs; flags = h; mem = s.mem }))) (sym flags_of)
         ∙ list_stores_same low_flag g list choice (start s4) (is_own p.machine bank) own_low lifting.no_loop lifting.names
 
-    abbrev mixed : State → Carried
+    abbrev mixed : State → Content
     mixed new = record { regs = new.regs; flags = λ f. if low_flag f then new.flags f else g f; mem = new.mem }
 
     high_flag : (new : State) (jump : Option ℕ) (f : ℕ) → x4 ≡ Ends (position (λ x w. Stuck) 0 jump new) → low_flag f ≡ false → After f → g f ≡ new.flags f
@@ -259,7 +256,7 @@ module _ (p : Program) (form : Layout) (bank : Bank) (q : UnrolledPoint) (row : 
         let up : 4 ≤ f = grind (arith, nat_tests) in
         let same = of_ends _ _ (sym ends ∙ own_ends ∙ ap (λ (z : Ending). mix_end low_flag s4.flags z) ends) in
         let flag : new.flags f ≡ (if low_flag f then new.flags f else s4.flags f) = ap (λ (z : Position). z.env.flags f) same in
-        agrees f (read_later p row q.point.at is lawful f (not_sure row lawful f up (row.flags.surely f) refl) after) ∙ sym (lower_beyond s g f e)
+        agrees f (read_later f (not_sure row lawful f up (row.flags.surely f) refl) after) ∙ sym (lower_beyond s g f e)
         ∙ sym (flag ∙ pick (low_flag f) (new.flags f) (s4.flags f) (s4.flags f) (λ t. absurd (cc)) (λ t. refl))
 
     carried_of_new : (how : How) (new : State) → row.effect s4 choice ≡ Goes how new → x4 ≡ Ends (position (λ x w. Stuck) 0 (jump_of how new) new) →
@@ -287,7 +284,7 @@ module _ (p : Program) (form : Layout) (bank : Bank) (q : UnrolledPoint) (row : 
         (λ (z : Outcome). of_row (λ y w. Stuck) 0 z) e) in
         subst (λ (z : Ending). LeavesAs After (Raises x) (leaving_by q (mix_end low_flag g z))) (sym raised.1) refl
 
-    onward : (o n : Outcome) (l : Leaving) → Alike p row q.point.at is lawful o n → LeavesAs After n l → LeavesAs After o l
+    onward : (o n : Outcome) (l : Leaving) → Alike row lawful Reads After read_now read_later o n → LeavesAs After n l → LeavesAs After o l
     onward (Goes how new) (Goes other t) (GoesOn jumped to c) a h =
         (h.0 ∙ ap jumps (sym a.0), h.1 ∙ sym a.1, carried_over After new t c a.1 a.2 a.3 a.4 h.2)
     onward (Goes how new) (Goes other t) (RaisesOne n) a h = absurd h
@@ -301,33 +298,29 @@ module _ (p : Program) (form : Layout) (bank : Bank) (q : UnrolledPoint) (row : 
     leaves_moved : LeavesAs After (row.effect s choice) (leaving_by q (execute list choice (start moved)))
     leaves_moved =
         onward (row.effect s choice) (row.effect s4 choice) (leaving_by q (execute list choice (start moved)))
-        (lower_step p row q.point.at is lawful s g agrees choice)
+        (lower_step row lawful Reads After read_now read_later s g agrees choice)
         (subst (λ (z : Ending). LeavesAs After (row.effect s4 choice) (leaving_by q z)) (sym moved_ends) (leaves_by (row.effect s4 choice) refl))
 
     stores_moved : (a : ℕ) → Contains (list_stored list choice (start moved)) a ↔ Contains (addresses (row.stored s)) a
     stores_moved a =
         subst (λ (z : List ℕ). Contains z a ↔ Contains (addresses (row.stored s)) a) (sym moved_stores)
         (subst (λ (z : Option (ℕ × ℕ)). Contains (list_stored list choice (start s4)) a ↔
-        Contains (addresses z) a) (sym (lower_stores p row q.point.at is lawful s g agrees))
+        Contains (addresses z) a) (sym (lower_stores row lawful Reads After read_now read_later s g agrees))
         (lifting.stored s4 state4 here choice 0 few (λ x w. Stuck) a))
 
-  same_carried : (reads : ℕ → Type 0) (s : State) (c : Carried) → IsCarriedOf reads s c → c ≡ record { regs = s.regs; flags = c.flags; mem = s.mem }
+  same_carried : (reads : ℕ → Type 0) (s : State) (c : Content) → IsCarriedOf reads s c → c ≡ record { regs = s.regs; flags = c.flags; mem = s.mem }
   same_carried reads s c h =
-      ap (λ (z : ℕ → ℕ). let r : Carried = record { regs = z; flags = c.flags; mem = c.mem } in r) h.regs
-      ∙ ap (λ (z : ℕ → ℕ). let r : Carried = record { regs = s.regs; flags = c.flags; mem = z } in r) h.mem
+      ap (λ (z : ℕ → ℕ). let r : Content = record { regs = z; flags = c.flags; mem = c.mem } in r) h.regs
+      ∙ ap (λ (z : ℕ → ℕ). let r : Content = record { regs = s.regs; flags = c.flags; mem = z } in r) h.mem
 
-  reads_here : (s : State) (c : Carried) → s.pc ≡ q.point.at → IsCarriedOf (λ f. IsRead p f s.pc) s c → (f : ℕ) → IsRead p f q.point.at → c.flags f ≡ s.flags f
-  reads_here s c here h f r = h.flags f (subst (λ (z : ℕ). IsRead p f z) (sym here) r)
-
-  pub leaves_lifted : (s : State) (c : Carried) (choice : ℕ) → IsState s → s.pc ≡ q.point.at → choice < 4 → IsCarriedOf (λ f. IsRead p f s.pc) s c →
-      LeavesAs (λ f. IsReadAfter p f s.pc) (row.effect s choice) (leaving_by q (execute list choice (begins q c)))
+  pub leaves_lifted : (s : State) (c : Content) (choice : ℕ) → IsState s → s.pc ≡ q.point.at → choice < 4 → IsCarriedOf Reads s c →
+      LeavesAs After (row.effect s choice) (leaving_by q (execute list choice (begins q c)))
   leaves_lifted s c choice state here few h =
-      subst (λ (z : ℕ). LeavesAs (λ f. IsReadAfter p f z) (row.effect s choice) (leaving_by q (execute list choice (begins q c)))) (sym here)
-      (subst (λ (z : Carried). LeavesAs (λ f. IsReadAfter p f q.point.at) (row.effect s choice) (leaving_by q (execute list choice (begins q z))))
-      (sym (same_carried (λ f. IsRead p f s.pc) s c h)) (leaves_moved s c.flags choice state here few h.state.flags (reads_here s c here h)))
+      subst (λ (z : Content). LeavesAs After (row.effect s choice) (leaving_by q (execute list choice (begins q z)))) (sym (same_carried Reads s c h))
+      (leaves_moved s c.flags choice state here few h.state.flags h.flags)
 
-  pub stores_lifted : (s : State) (c : Carried) (choice : ℕ) → IsState s → s.pc ≡ q.point.at → choice < 4 → IsCarriedOf (λ f. IsRead p f s.pc) s c → (a : ℕ) →
+  pub stores_lifted : (s : State) (c : Content) (choice : ℕ) → IsState s → s.pc ≡ q.point.at → choice < 4 → IsCarriedOf Reads s c → (a : ℕ) →
       Contains (list_stored list choice (begins q c)) a ↔ Contains (addresses (row.stored s)) a
   stores_lifted s c choice state here few h a =
-      subst (λ (z : Carried). Contains (list_stored list choice (begins q z)) a ↔ Contains (addresses (row.stored s)) a)
-      (sym (same_carried (λ f. IsRead p f s.pc) s c h)) (stores_moved s c.flags choice state here few h.state.flags (reads_here s c here h) a)
+      subst (λ (z : Content). Contains (list_stored list choice (begins q z)) a ↔ Contains (addresses (row.stored s)) a) (sym (same_carried Reads s c h))
+      (stores_moved s c.flags choice state here few h.state.flags h.flags a)

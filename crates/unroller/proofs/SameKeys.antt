@@ -53,7 +53,7 @@ module _ (f : specs.Frame) (k : ℕ) (frames : List Frame) (numbers : BTreeMap (
       let r = same_anchor (root_of x) (root_of y) g h (ap (λ (z : spec.Point). z.anchor) e) in
       let q : stack_at frames (stack_of x) ≡ stack_at frames (stack_of y) = ap (λ (z : spec.Point). z.stack) e in
       let s = one_number frames numbers table (stack_of x) (stack_of x) (stack_of y) (omega arith) a b q in
-      key_parts x y r (ap (λ (z : spec.Point). z.turns) e) (ap (λ (z : spec.Point). z.at) e) s
+      key_parts x y r (ap (λ (z : spec.Point). z.turns) e) (ap (λ (z : spec.Point). z.at) e) s (ap (λ (z : spec.Point). z.contract) e)
 
   -- the first root is the entry's, and no other is
   entry_by : (o : Option Root) → anchor_of (stacks_of frames) o ≡ AtEntry → o ≡ None

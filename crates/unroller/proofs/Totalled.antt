@@ -14,7 +14,7 @@ use Rattle.question_form.specs.declared.unrolled.Point.{Point}
 use Rattle.question_form.specs.declared.unrolled.Unrolled.{Unrolled}
 use Rattle.question_form.specs.Views.{edges_from}
 use Rattle.unroller.specs.LineCosts.{capped, AreLineCosts}
-use Rattle.unroller.specs.Points.{AreOfCode, is_out}
+use Rattle.unroller.specs.Points.{AreOf, AreOfCode, is_out}
 use Rattle.unroller.specs.Totals.{AreSums, AreTotalsBy, IsSum, has_list}
 use Rattle.unroller.specs.declared.costs.LineCost.{LineCost}
 use Rattle.unroller.specs.declared.prices.Totals.{Totals}
@@ -64,25 +64,32 @@ module _ {X : Type 0} (row loads stores edges : X → ℕ) (lines : X → List E
       ap (λ (z : List Expr). sum_by g z) (append-nil (lines x) ∙ e) ∙ sum_by-append g some (if b then more else [])
       ∙ ap (λ (z : ℕ). sum_by g some + z) (sum_cases g b more)
 
-  pub one_totals : (x : X) (c : Code) (led : List Edge) (some more : List Expr) (judged ensured : LineCost) (t : Totals) → AreOfCode c led judged ensured t →
-      row x ≡ c.row → loads x ≡ c.loads → stores x ≡ c.stores → edges x ≡ (if has_list c.list then length led else 0) →
-      lines x ≡ some ++ (if is_out c led then more else []) → AreLineCosts judged some → AreLineCosts ensured more →
+  pub totals_of : (x : X) (row_of loads_of stores_of edges_of : ℕ) (out : Bool) (some more : List Expr) (judged ensured : LineCost) (t : Totals) →
+      AreOf row_of loads_of stores_of edges_of out judged ensured t → row x ≡ row_of → loads x ≡ loads_of → stores x ≡ stores_of → edges x ≡ edges_of →
+      lines x ≡ some ++ (if out then more else []) → AreLineCosts judged some → AreLineCosts ensured more →
       AreTotalsBy row loads stores edges lines (x ∷ []) t
-  one_totals x c led some more judged ensured t are r l s d e j k = record {
+  totals_of x row_of loads_of stores_of edges_of out some more judged ensured t are r l s d e j k = record {
     rows = are.rows ∙ ap capped (sym r ∙ sym (single row x));
     loads =
         are.loads
-        ∙ ap (λ (z : ℕ). capped (c.loads + z)) (cost_cases (is_out c led) (sum_by bytes_loaded some) (sum_by bytes_loaded more) judged.loads ensured.loads
-        j.loads k.loads)
-        ∙ capped_right c.loads (sum_by bytes_loaded some + (if is_out c led then sum_by bytes_loaded more else 0))
-        ∙ ap (λ (z : ℕ). capped (c.loads + z)) (sym (lines_sum x (is_out c led) some more bytes_loaded e))
+        ∙ ap (λ (z : ℕ). capped (loads_of + z)) (cost_cases out (sum_by bytes_loaded some) (sum_by bytes_loaded more) judged.loads ensured.loads j.loads k.loads)
+        ∙ capped_right loads_of (sum_by bytes_loaded some + (if out then sum_by bytes_loaded more else 0))
+        ∙ ap (λ (z : ℕ). capped (loads_of + z)) (sym (lines_sum x out some more bytes_loaded e))
         ∙ ap (λ (z : ℕ). capped (z + sum_by bytes_loaded (flat_map lines (x ∷ [])))) (sym l ∙ sym (single loads x));
     stores = are.stores ∙ ap capped (sym s ∙ sym (single stores x));
     edges = are.edges ∙ ap capped (sym d ∙ sym (single edges x));
     lines =
-        are.lines ∙ cost_cases (is_out c led) (sum_by line_price some) (sum_by line_price more) judged.price ensured.price j.price k.price
-        ∙ ap capped (sym (lines_sum x (is_out c led) some more line_price e));
+        are.lines ∙ cost_cases out (sum_by line_price some) (sum_by line_price more) judged.price ensured.price j.price k.price
+        ∙ ap capped (sym (lines_sum x out some more line_price e));
   }
+
+  pub one_totals : (x : X) (c : Code) (led : List Edge) (some more : List Expr) (judged ensured : LineCost) (t : Totals) → AreOfCode c led judged ensured t →
+      row x ≡ c.row → loads x ≡ c.loads → stores x ≡ c.stores → edges x ≡ (if has_list c.list then length led else 0) →
+      lines x ≡ some ++ (if is_out c led then more else []) → AreLineCosts judged some → AreLineCosts ensured more →
+      AreTotalsBy row loads stores edges lines (x ∷ []) t
+  one_totals x c led some more judged ensured t are r l s d e j k =
+      totals_of x c.row c.loads c.stores (if has_list c.list then length led else 0) (is_out c led) some more judged ensured t
+      (record { rows = are.rows; loads = are.loads; stores = are.stores; edges = are.edges; lines = are.lines }) r l s d e j k
 
   totals_on : (x : X) (rest : List X) (a b t : Totals) → AreTotalsBy row loads stores edges lines (x ∷ []) a →
       AreTotalsBy row loads stores edges lines rest b → AreSums a b t → AreTotalsBy row loads stores edges lines (x ∷ rest) t

@@ -1,5 +1,5 @@
 -- Roots by the numbers of where segments begin.
-use Rattle.std.specs.Prelude.{ℕ, ◌≡◌, ◌<◌, List, Option, Some, None, length, slice_index, slice_index_or}
+use Rattle.std.specs.Prelude.{ℕ, ◌≡◌, ◌<◌, false, List, Option, Some, None, length, slice_index, slice_index_or}
 use Rattle.program_points.specs.declared.values.Root as listed
 use Rattle.question_form.specs.declared.unrolled.Root.{Root}
 use Rattle.unroller.specs.Keys.{head_of, key_of}
@@ -7,8 +7,8 @@ use Rattle.unroller.specs.Places.{IsGroup}
 
 -- the number of the first point of a root
 abbrev pub first_key : (entry n : ℕ) → Option listed.Root → ℕ
-first_key entry n None = key_of n 0 entry 0
-first_key entry n (Some r) = key_of n 0 r.at r.stack
+first_key entry n None = key_of n 0 entry 0 false
+first_key entry n (Some r) = key_of n 0 r.at r.stack false
 
 -- a head's part of the assert lines by address, and none for the entry
 abbrev pub IsGroupOf : (asserts : List (ℕ × ℕ)) → Option listed.Root → ℕ × ℕ → Type 0

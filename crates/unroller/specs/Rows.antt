@@ -1,5 +1,6 @@
 -- What the lists of rows do at points.
-use Rattle.std.specs.Prelude.{ℕ, ◌≡◌, ◌<◌, ◌^◌, ◌↔◌, Bool, true, List, Option, Some, None, Contains, length, slice_index, if◌then◌else◌}
+use Rattle.std.specs.Prelude.{ℕ, ◌≡◌, ◌<◌, ◌^◌, ◌↔◌, ◌⊎◌, Bool, true, nat_eq, nat_lt, List, [], Option, Some, None, Contains, length, slice_index, if◌then◌else◌}
+use Rattle.std.specs.List.{list_any}
 use Rattle.std.specs.Global.{Vec}
 use Rattle.machine_spec.specs.Machine.{Row}
 use Rattle.machine_spec.specs.MachineLaws.{IsLawful, IsFitted, IsLifting}
@@ -7,15 +8,17 @@ use Rattle.machine_spec.specs.StateText.{Layout}
 use Rattle.machine_spec.specs.Bil.{Bank, Statements, Empty}
 use Rattle.machine_spec.specs.BilCounts.{may_assign}
 use Rattle.bilv_spec.specs.Run.{Program, all_kept}
-use Rattle.bilv_spec.specs.Points.{file_row, file_number}
+use Rattle.bilv_spec.specs.Points.{file_row, file_number, loads_at}
 use Rattle.bilv_spec.specs.LiveFlags.{IsLive}
 use Rattle.bil_ast.specs.declared.statements.Stmt.{Stmt}
 use Rattle.bil_ast.specs.Views.{statements}
 use Rattle.bil_trim.specs.Flags.{kept_in, with_flags}
 use Rattle.bil_trim.specs.Literals.{with_literal}
 use Rattle.graph_nodes.specs.Graphs.{has_flag}
-use Rattle.walk_spec.specs.Unrolled.{Action, Executes, UnrolledPoint, UnrolledProgram, is_register_of, is_flag_of, point_at}
-use Rattle.walk_spec.specs.Unrolling.{DoesRow, IsRunnable, IsCounted}
+use Rattle.walk_spec.specs.Unrolled.{Action, Executes, UnrolledProgram, point_at}
+use Rattle.frame_spec.specs.Frames.{Contract}
+use Rattle.frame_spec.specs.FrameUnrolling.{DoesRow, IsRunnable}
+use Rattle.frame_spec.specs.FrameWalk as frames
 
 -- the address of a literal, if its four bytes are kept
 abbrev pub kept_literal : Program → Option ℕ → Option ℕ
@@ -51,12 +54,23 @@ pub record IsListAt (p : Program) (bank : Bank) (row : Row) (at : ℕ) (list : S
   pub is : list ≡ list_with p (kept_literal p (row.literal at)) (with_flags (kept_in keeps) lifted)
   pub word : (a : ℕ) → kept_literal p (row.literal at) ≡ Some a → file_number p a < 2 ^ 32
 
+-- So where the assignments of the flags of a set stay besides.
+pub record IsListWith (p : Program) (bank : Bank) (always : ℕ) (row : Row) (at : ℕ) (list : Statements) : Type 0 where
+  pub lifted : Statements
+  pub lifting : IsLifting p.machine bank row at lifted
+  pub keeps : ℕ
+  pub live : (f : ℕ) → f < 4 → IsLive p f at → has_flag keeps f ≡ true
+  pub besides : (f : ℕ) → f < 4 → has_flag always f ≡ true → has_flag keeps f ≡ true
+  pub only : (f : ℕ) → f < 4 → has_flag keeps f ≡ true → IsLive p f at ⊎ (has_flag always f ≡ true)
+  pub is : list ≡ list_with p (kept_literal p (row.literal at)) (with_flags (kept_in keeps) lifted)
+  pub word : (a : ℕ) → kept_literal p (row.literal at) ≡ Some a → file_number p a < 2 ^ 32
+
 -- the list of what stands at an address, and none where there is no row
-abbrev pub IsListedAt : Program → Bank → Option Row → (at : ℕ) → Option (Vec Stmt) → Type 0
-IsListedAt p bank None at None = Unit {0}
-IsListedAt p bank (Some row) at (Some v) = IsListAt p bank row at (statements v.items)
-IsListedAt p bank None at (Some v) = ⊥
-IsListedAt p bank (Some row) at None = ⊥
+abbrev pub IsListedAt : Program → Bank → (always : ℕ) → Option Row → (at : ℕ) → Option (Vec Stmt) → Type 0
+IsListedAt p bank always None at None = Unit {0}
+IsListedAt p bank always (Some row) at (Some v) = IsListWith p bank always row at (statements v.items)
+IsListedAt p bank always None at (Some v) = ⊥
+IsListedAt p bank always (Some row) at None = ⊥
 
 -- what is done where a row stands at an address is the row's list, and nothing where none does
 abbrev pub IsListOf : Program → Bank → Option Row → (at : ℕ) → Action → Type 0
@@ -68,12 +82,25 @@ abbrev pub HasListsOf : Program → Bank → UnrolledProgram → Type 0
 HasListsOf p bank u = (i : ℕ) → i < length u.points →
     IsListOf p bank (file_row p (point_at u i).point.at) (point_at u i).point.at (point_at u i).does
 
--- The list of a lawful row, at a point of the row's address, does what the row does as far as it is read later. Terms can be made of it.
+-- the flags of the set are all, or there is no contract that could read one
+abbrev pub CanBeRead : List Contract → (always : ℕ) → Type 0
+CanBeRead contracts always = (contracts ≡ []) ⊎ ((f : ℕ) → f < 4 → has_flag always f ≡ true)
+
+-- what is counted of a point is what the row costs
+pub record IsCosted (p : Program) (q : frames.UnrolledPoint) (row : Row) : Type 0 where
+  pub draws : q.draws ≡ row.draws
+  pub row_cost : q.row ≡ row.cost.row
+  pub loads : q.loads ≡ loads_at p q.point.at (Some row)
+  pub stores : q.stores ≡ row.cost.stores
+
+-- The list of a lawful row, at a point of the row's address, does what the row does as far as it is read later, in frames with some contracts. Terms can be made
+-- of it.
 abbrev pub ListsDoRows : Type 0
-ListsDoRows = (p : Program) (u : UnrolledProgram) (form : Layout) (bank : Bank) (q : UnrolledPoint) (row : Row) (list : Statements) →
-    IsFitted p.machine form → ((r : ℕ) → is_register_of u r ≡ p.machine.has_register r) → ((f : ℕ) → is_flag_of u f ≡ p.machine.has_flag f) →
-    file_row p q.point.at ≡ Some row → IsLawful row → IsListAt p bank row q.point.at list →
-    q.does ≡ Executes list → q.length ≡ row.length → IsCounted p q (Some row) → DoesRow p q row × IsRunnable u q list
+ListsDoRows = (p : Program) (contracts : List Contract) (u : frames.UnrolledProgram) (form : Layout) (bank : Bank) (always : ℕ) (q : frames.UnrolledPoint)
+    (row : Row) (list : Statements) →
+    IsFitted p.machine form → ((r : ℕ) → list_any (nat_eq r) u.registers ≡ p.machine.has_register r) → ((f : ℕ) → nat_lt f u.flags ≡ p.machine.has_flag f) →
+    file_row p q.point.at ≡ Some row → IsLawful row → IsListWith p bank always row q.point.at list → CanBeRead contracts always →
+    q.does ≡ frames.Executes list → q.length ≡ row.length → IsCosted p q row → DoesRow p contracts u q row × IsRunnable u q list
 
 -- what is done assigns the flag somewhere
 abbrev pub may_assign_in : ℕ → Action → Bool

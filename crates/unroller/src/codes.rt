@@ -9,12 +9,13 @@ ghost use Rattle.bilv_spec.specs.Points.{loads_at};
 ghost use Rattle.bilv_spec.specs.Run.{some_of};
 ghost use Rattle.bil_ast.specs.Views.{statements};
 ghost use Rattle.byte_mem.specs.Views.{endian_of};
-ghost use Rattle.graph_nodes.specs.Graphs.{IsGraph, IsKeptLive, IsNode, LiveStay, addresses_of};
+ghost use Rattle.flag_live.specs.Keeps.{IsKeptWith, LiveStayWith};
+ghost use Rattle.graph_nodes.specs.Graphs.{IsGraph, IsNode, addresses_of};
 ghost use Rattle.graph_nodes.specs.Places.{AreRising};
 ghost use Rattle.unroller.specs.Asking.{program_asking};
 ghost use Rattle.unroller.specs.Places.{AreCodes, IsRowCode};
 ghost use Rattle.unroller.specs.Rows as rows;
-ghost use Rattle.unroller.specs.Rows.{AreLiterals, IsListAt};
+ghost use Rattle.unroller.specs.Rows.{AreLiterals, IsListWith};
 
 use bil_ast::Stmt;
 use bil_trim::{Literal, with_flags, with_literal};
@@ -107,8 +108,8 @@ fn listed<M: Machine>(
     node: &Node,
 ) -> Result<RowList, AllocError>
     requires { order_of image.now ≡ M.machine.endian }
-    ensures list { (n : Notes) (e : ℕ) (o : ℕ → Bool) → IsKeptLive (program_asking M.machine image.now n e o) node.now →
-        IfOk result (λ l. IsListAt (program_asking M.machine image.now n e o) M.bank (M.Machine.row insn.now) node.now.at (statements l.list.items)) }
+    ensures list { (n : Notes) (e : ℕ) (o : ℕ → Bool) (always : ℕ) → IsKeptWith (program_asking M.machine image.now n e o) always node.now →
+        IfOk result (λ l. IsListWith (program_asking M.machine image.now n e o) M.bank always (M.Machine.row insn.now) node.now.at (statements l.list.items)) }
     ensures loads { (n : Notes) (e : ℕ) (o : ℕ → Bool) → IfOk result (λ l.
         l.loads ≡ loads_at (program_asking M.machine image.now n e o) node.now.at (Some (M.Machine.row insn.now))) }
 {
@@ -137,8 +138,9 @@ pub fn code_at<M: Machine>(
     requires { order_of image.now ≡ M.machine.endian }
     ensures at { IfOk result (λ c. c.at ≡ node.now.at) }
     ensures asserts { IfOk result (λ c. c.asserts ≡ asserts) }
-    ensures row { (n : Notes) (e : ℕ) (o : ℕ → Bool) → IsNode (program_asking M.machine image.now n e o) node.now →
-        IsKeptLive (program_asking M.machine image.now n e o) node.now → IfOk result (λ c. IsRowCode (program_asking M.machine image.now n e o) M.bank c) }
+    ensures row { (n : Notes) (e : ℕ) (o : ℕ → Bool) (always : ℕ) → IsNode (program_asking M.machine image.now n e o) node.now →
+        IsKeptWith (program_asking M.machine image.now n e o) always node.now →
+        IfOk result (λ c. IsRowCode (program_asking M.machine image.now n e o) M.bank always c) }
 {
     let word = match node.word {
         None => return Ok(bare(node, asserts)),
@@ -163,7 +165,7 @@ pub fn code_at<M: Machine>(
     })
 }
 
-/// What stands at addresses of a graph that keeps the assignments of flags that are live, each with its part of the assert lines by address. The error is want
+/// What stands at addresses of a graph that keeps the assignments of flags that are live, and those of a set, each with its part of the assert lines by address. The error is want
 /// of memory.
 pub fn codes_at<M: Machine>(
     alloc: Global,
@@ -176,9 +178,9 @@ pub fn codes_at<M: Machine>(
     requires nodes { AreRising graph.now.nodes.items }
     requires among { (a : ℕ) → Contains addresses.now a → Contains (addresses_of graph.now) a }
     requires sorted { IsNonDecreasingBy (λ x. x.0) asserts.now }
-    ensures { (n : Notes) (e : ℕ) (o : ℕ → Bool) → IsGraph (program_asking M.machine image.now n e o) graph.now →
-        LiveStay (program_asking M.machine image.now n e o) graph.now →
-        IfOk result (λ v. AreCodes (program_asking M.machine image.now n e o) M.bank addresses.now asserts.now (length addresses.now) v.items) }
+    ensures { (n : Notes) (e : ℕ) (o : ℕ → Bool) (always : ℕ) → IsGraph (program_asking M.machine image.now n e o) graph.now →
+        LiveStayWith (program_asking M.machine image.now n e o) always graph.now →
+        IfOk result (λ v. AreCodes (program_asking M.machine image.now n e o) M.bank always addresses.now asserts.now (length addresses.now) v.items) }
 {
     let mut codes: Vec<Code> = Vec::with_capacity(alloc, addresses.len())?;
     for at in addresses {

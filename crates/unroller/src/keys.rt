@@ -1,11 +1,12 @@
 //! Points as numbers, in the order of places.
-ghost use Rattle.std.specs.Prelude.{◌≡◌, ◌↔◌, ◌≤◌, ◌<◌, ℕ, IfOk, MatchOption, Contains, length, map, slice_index, slice_index_or};
+ghost use Rattle.std.specs.Prelude.{◌≡◌, ◌↔◌, ◌≤◌, ◌<◌, ℕ, IfOk, MatchOption, Contains, filter, length, map, slice_index, slice_index_or};
 ghost use Rattle.std.specs.List.Sorted.{IsNonDecreasingBy, IsStrictlyIncreasing};
 ghost use Rattle.program_points.specs.declared.values.FramePoint.{FramePoint as ListedPoint};
 ghost use Rattle.program_points.specs.Tables.{is_among};
 ghost use Rattle.unroller.specs.Keys as numbers;
 ghost use Rattle.unroller.specs.Keys.{IsAimAt};
 
+use crate::returning::is_stepped;
 use notes_index::group;
 use program_points::{End, FramePoint, Root};
 use question_form::Aim;
@@ -20,12 +21,17 @@ const TURN: u128 = 18_446_744_073_709_551_616;
 /// What an address counts in the number of a point: 2^32.
 const ADDRESS: u128 = 4_294_967_296;
 
-/// The number of a point: by the number of its root, then by its backward transfers, then by its address, then by the number of its stack.
-pub fn key_of(root: u32, turns: u32, at: u32, stack: usize) -> u128
+/// The number of a point: by the number of its root, then by its backward transfers, then by its address, then by the number of its stack, and last by whether a
+/// contract step is made there.
+pub fn key_of(root: u32, turns: u32, at: u32, stack: usize, contract: bool) -> u128
     requires { root ≤ 16777216 }
-    ensures { result ≡ numbers.key_of root turns at stack }
+    ensures { result ≡ numbers.key_of root turns at stack contract }
 {
-    root as u128 * ROOT + turns as u128 * TURN + at as u128 * ADDRESS + stack as u128
+    let even = root as u128 * ROOT
+        + turns as u128 * TURN
+        + at as u128 * ADDRESS
+        + stack as u128 * 2;
+    if contract { even + 1 } else { even }
 }
 
 /// The number of the root of the point of a number.
@@ -53,7 +59,14 @@ pub fn address_of(key: u128) -> u32
 pub fn stack_of(key: u128) -> usize
     ensures { result ≡ numbers.stack_of key }
 {
-    (key % ADDRESS) as usize
+    (key % ADDRESS / 2) as usize
+}
+
+/// Whether a contract step is made at the point of a number.
+pub fn contract_of(key: u128) -> bool
+    ensures { result ≡ numbers.contract_of key }
+{
+    key % 2 == 1
 }
 
 /// The number of where a segment begins: 0 for the entry, and for a head by its address and the number of its stack.
@@ -78,18 +91,20 @@ pub fn head_of(number: u128) -> Option<Root>
     Some(Root { stack, at })
 }
 
-/// The number of the point at an end of a point, which is of the same segment.
-pub fn target_key(own: u128, end: End) -> u128
+/// The number of the point at an end of a point, which is of the same segment; by the addresses of the contracts that are stepped over, and the stack behind the
+/// point's call, where that links.
+pub fn target_key(stepped: &[u32], linked: Option<usize>, own: u128, end: End) -> u128
     requires root { numbers.root_of own ≤ 16777216 }
     requires low { numbers.turns_of own ≤ 4096 }
-    ensures value { result ≡ numbers.target_key own end }
+    ensures value { result ≡ numbers.target_key stepped.now linked own end }
     ensures small { end.at < 4294967296 }
 {
     let turns = turns_of(own);
+    let contract = is_stepped(stepped, linked, end);
     if end.at <= address_of(own) {
-        return key_of(root_of(own), turns + 1, end.at, end.stack);
+        return key_of(root_of(own), turns + 1, end.at, end.stack, contract);
     }
-    key_of(root_of(own), turns, end.at, end.stack)
+    key_of(root_of(own), turns, end.at, end.stack, contract)
 }
 
 /// The numbers of where the segments of points begin, each once and rising. The error is want of memory.
@@ -130,7 +145,13 @@ fn point_key(point: FramePoint, segments: &[u128]) -> u128
     ensures small { point.at < 4294967296 }
 {
     let root = place_in(segments, head_number(point.root));
-    key_of(root as u32, point.turns as u32, point.at, point.stack)
+    key_of(
+        root as u32,
+        point.turns as u32,
+        point.at,
+        point.stack,
+        point.contract,
+    )
 }
 
 /// The numbers of points, by the numbers of where their segments begin. The error is want of memory.
@@ -175,15 +196,27 @@ pub fn addresses_in_order(mut found: Vec<u32>) -> Result<Vec<u32>, AllocError>
     Ok(found)
 }
 
-/// The addresses of the points of numbers, each once and rising. The error is want of memory.
-pub fn addresses(alloc: Global, keys: &[u128]) -> Result<Vec<u32>, AllocError>
+/// Whether a contract step is made at the point of a number, or none is.
+fn is_of(contract: bool, key: u128) -> bool
+    ensures { result ≡ numbers.is_of contract key }
+{
+    if contract {
+        return contract_of(key);
+    }
+    !contract_of(key)
+}
+
+/// The addresses of those of the points of numbers at which a contract step is made, or of the others, each once and rising. The error is want of memory.
+pub fn addresses(alloc: Global, keys: &[u128], contract: bool) -> Result<Vec<u32>, AllocError>
     ensures rise { IfOk result (λ v. IsStrictlyIncreasing v.items) }
-    ensures same { IfOk result (λ v. (x : ℕ) → Contains (map numbers.address_of keys.now) x ↔ Contains v.items x) }
+    ensures same { IfOk result (λ v. (x : ℕ) → Contains (map numbers.address_of (filter (numbers.is_of contract) keys.now)) x ↔ Contains v.items x) }
     ensures few { IfOk result (λ v. length v.items ≤ length keys.now) }
 {
-    let mut found: Vec<u32> = Vec::with_capacity(alloc, keys.len())?;
+    let mut found: Vec<u32> = Vec::new(alloc);
     for key in keys {
-        found.push(address_of(*key))?;
+        if is_of(contract, *key) {
+            found.push(address_of(*key))?;
+        }
     }
     let ordered = addresses_in_order(found)?;
     Ok(ordered)
@@ -200,10 +233,12 @@ pub fn address_place(addresses: &[u32], at: u32) -> Option<usize>
     }
 }
 
-/// What says where edges lead: the heads, the assert lines by address, and the numbers of all points.
+/// What says where edges lead: the heads, the addresses of the contracts that are stepped over, in the order of their ranks, the assert lines by address, and the
+/// numbers of all points.
 #[derive(Clone, Copy)]
 pub struct Aims<'a> {
     pub heads: &'a [u32],
+    pub stepped: &'a [u32],
     pub asserts: &'a [(u32, usize)],
     pub keys: &'a [u128],
 }

@@ -3,7 +3,7 @@ ghost use Rattle.unroller.specs.Edges.{EndsMakeEdges, ExitsAreReturns};
 ghost use Rattle.unroller.specs.FrameFirst.{PointsAreOfSegments};
 ghost use Rattle.unroller.specs.Kept.{KeptRunsAreRight};
 ghost use Rattle.unroller.specs.Lookups.{FormsAreRight, PointsAreAt};
-ghost use Rattle.unroller.specs.Places.{PlacesAreRight};
+ghost use Rattle.unroller.specs.Places.{PlacesAreRight, StepsAreRight};
 ghost use Rattle.unroller.specs.Rows.{ListsDoRows};
 
 /// The list of a lawful row does at each of its points what the row does, as far as it is read later, and is one that terms can be made of.
@@ -14,6 +14,11 @@ pub fn lists_do_rows()
 /// A point of the code of its address, with its edges, is what a frame has at its place.
 pub fn places_are_right()
     ensures { PlacesAreRight }
+{}
+
+/// A point at which a contract step is made, with its edges, is what a frame has at its place.
+pub fn steps_are_right()
+    ensures { StepsAreRight }
 {}
 
 /// Ends that are those of the edges of a point, each once and none before the exit, are the ends of its edges.
@@ -41,7 +46,7 @@ pub fn kept_runs_are_right()
     ensures { KeptRunsAreRight }
 {}
 
-/// The points of a frame that steps over no contract, within their segments.
+/// The points of a frame within their segments.
 pub fn points_are_of_segments()
     ensures { PointsAreOfSegments }
 {}

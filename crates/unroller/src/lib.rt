@@ -11,13 +11,15 @@ pub mod lines;
 mod numbering;
 mod placing;
 pub mod prices;
+mod returning;
 mod roots;
+mod steps;
 mod unrolling;
 
 pub use codes::{code_at, codes_at, literals_at};
 pub use laws::{
     ends_make_edges, exits_are_returns, forms_are_right, kept_runs_are_right, lists_do_rows,
-    places_are_right, points_are_at, points_are_of_segments,
+    places_are_right, points_are_at, points_are_of_segments, steps_are_right,
 };
 pub use prices::{price, price_with};
-pub use unrolling::{unroll, unroll_asking, unroll_frame};
+pub use unrolling::{FrameParts, unroll, unroll_asking, unroll_contracted, unroll_frame};

@@ -19,7 +19,7 @@ pub struct Keyed {
     pub keys: Vec<u128>,
 }
 
-/// The points of a frame with these heads, with at most `k` backward transfers, from its program's flow graph.
+/// The points of a frame with these heads, which steps over the contracts of these addresses, with at most `k` backward transfers, from its program's flow graph.
 ///
 /// # Errors
 ///
@@ -27,28 +27,24 @@ pub struct Keyed {
 pub fn number_points(
     alloc: Global,
     graph: &Graph,
-    heads: &[u32],
+    cuts: &Cuts,
     entry: u32,
     k: u64,
     max: u64,
 ) -> Result<Keyed, PointsFault>
     requires max { max ≤ 16777216 }
     requires k { k ≤ 4096 }
-    ensures keys { (f : Frame) → IsFrameOf f graph.now heads.now entry →
+    ensures keys { (f : Frame) → IsFrameOf f graph.now cuts.now.heads.now cuts.now.stepped.now entry →
         IfOk result (λ v. AreKeys f k v.stacks.frames.items v.segments.items v.keys.items) }
-    ensures segments { (f : Frame) → IsFrameOf f graph.now heads.now entry → IfOk result (λ v. AreSegments f k v.stacks.frames.items v.segments.items) }
+    ensures segments { (f : Frame) → IsFrameOf f graph.now cuts.now.heads.now cuts.now.stepped.now entry → IfOk result (λ v. AreSegments f k v.stacks.frames.items v.segments.items) }
     ensures rise { IfOk result (λ v. IsStrictlyIncreasing v.keys.items) }
     ensures few { IfOk result (λ v. length v.keys.items ≤ max) }
     ensures short { IfOk result (λ v. length v.segments.items ≤ max) }
     ensures table { IfOk result (λ v. IsTable v.stacks.frames.items v.stacks.numbers) }
     ensures few_stacks { IfOk result (λ v. length v.stacks.frames.items ≤ max) }
-    ensures more { (f : Frame) → IsFrameOf f graph.now heads.now entry → IfErr result (HasTooMany f k max) }
+    ensures more { (f : Frame) → IsFrameOf f graph.now cuts.now.heads.now cuts.now.stepped.now entry → IfErr result (HasTooMany f k max) }
 {
-    let cuts = Cuts {
-        heads,
-        stepped: &[],
-    };
-    let listed = frame_points(alloc, graph, &cuts, entry, k, max)?;
+    let listed = frame_points(alloc, graph, cuts, entry, k, max)?;
     let segments = segments(alloc, &listed.points)?;
     let keys = keys_in_order(point_keys(alloc, &listed.points, &segments)?)?;
     Ok(Keyed {

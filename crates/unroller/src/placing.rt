@@ -7,11 +7,13 @@ ghost use Rattle.program_points.specs.declared.values.Frame.{Frame as StackFrame
 ghost use Rattle.program_points.specs.Tables.{IsTable};
 ghost use Rattle.unroller.specs.Keys as numbers;
 ghost use Rattle.unroller.specs.Led as leads;
-ghost use Rattle.unroller.specs.Led.{AreCalled, AreLeft, ArePlaced};
-ghost use Rattle.unroller.specs.Places.{deed_by};
+ghost use Rattle.unroller.specs.Led.{AreCalled, AreLeft, ArePlaced, HasCode, IsCoded, deed_at};
 
-use crate::edges::add_edges;
-use crate::keys::{Aims, address_of, address_place, is_head, root_of, stack_of, turns_of};
+use crate::edges::{add_edges, add_return};
+use crate::keys::{
+    Aims, address_of, address_place, contract_of, is_head, root_of, stack_of, turns_of,
+};
+use crate::steps::contract_place;
 use graph_nodes::{Graph, node_at};
 use program_points::{Frame, Stacks, called};
 use question_form::{Deed, Edge, Point};
@@ -59,18 +61,54 @@ fn is_arrival(heads: &[u32], key: u128) -> bool
     root_of(key) == 0 && is_head(heads, address_of(key))
 }
 
-/// What is done at a point.
-fn deed(arrival: bool) -> Deed
-    ensures { result ≡ deed_by arrival }
+/// What is done at the point of a number.
+fn deed(aims: &Aims, key: u128) -> Deed
+    ensures { result ≡ deed_at aims.now.heads.now aims.now.stepped.now key }
 {
-    if arrival { Deed::Arrival } else { Deed::Row }
+    if contract_of(key) {
+        return Deed::Contract(contract_place(aims.stepped, address_of(key)));
+    }
+    if is_arrival(aims.heads, key) {
+        return Deed::Arrival;
+    }
+    Deed::Row
 }
 
-/// Adds the edges of the point of a number, with the number of the stack behind a call; none where the segment ends there. The error is want of memory.
+/// The addresses that have codes, each list rising: those of rows, and those of contract steps, whose codes come behind.
+#[derive(Clone, Copy)]
+pub struct Coded<'a> {
+    pub rows: &'a [u32],
+    pub steps: &'a [u32],
+}
+
+/// The place of the code of the point at an address at which so is done.
+fn code_place(coded: Coded, deed: Deed, at: u32) -> usize
+    requires rows { IsStrictlyIncreasing coded.rows.now }
+    requires few_rows { length coded.rows.now ≤ 16777216 }
+    requires steps { IsStrictlyIncreasing coded.steps.now }
+    requires few_steps { length coded.steps.now ≤ 16777216 }
+    requires among { HasCode deed coded.rows.now coded.steps.now at }
+    ensures code { IsCoded deed coded.entry.rows.now coded.entry.steps.now at result }
+    ensures low { result ≤ 33554432 }
+{
+    match deed {
+        Deed::Contract(_) => match address_place(coded.steps, at) {
+            None => unreachable!(),
+            Some(place) => coded.rows.len() + place,
+        },
+        Deed::Row | Deed::Arrival => match address_place(coded.rows, at) {
+            None => unreachable!(),
+            Some(place) => place,
+        },
+    }
+}
+
+/// Adds the edges of the point of a number at which so is done, with the number of the stack behind a call: none where the segment ends there. The error is want
+/// of memory.
 fn add_left(
     alloc: Global,
     edges: &mut Vec<Edge>,
-    arrival: bool,
+    deed: Deed,
     graph: &Graph,
     frames: &[Frame],
     aims: &Aims,
@@ -84,27 +122,33 @@ fn add_left(
     requires root { numbers.root_of key ≤ 16777216 }
     requires low { numbers.turns_of key ≤ 4096 }
     requires among { Contains (addresses_of graph.now) (numbers.address_of key) }
-    ensures { OnOk result (AreLeft arrival graph.now aims.now.heads.now aims.now.asserts.now frames.now aims.now.keys.now key called edges.old.items
-        edges.new.items) }
+    ensures { OnOk result (AreLeft deed graph.now aims.now.heads.now aims.now.stepped.now aims.now.asserts.now frames.now aims.now.keys.now key called
+        edges.old.items edges.new.items) }
 {
-    if arrival {
-        return Ok(());
+    match deed {
+        Deed::Arrival => Ok(()),
+        Deed::Contract(_) => {
+            add_return(alloc, edges, graph.narrow, frames, aims, key)?;
+            Ok(())
+        }
+        Deed::Row => {
+            let node = match node_at(graph, address_of(key)) {
+                None => unreachable!(),
+                Some(node) => node,
+            };
+            add_edges(alloc, edges, graph.narrow, node, frames, aims, key, called)?;
+            Ok(())
+        }
     }
-    let node = match node_at(graph, address_of(key)) {
-        None => unreachable!(),
-        Some(node) => node,
-    };
-    add_edges(alloc, edges, graph.narrow, node, frames, aims, key, called)?;
-    Ok(())
 }
 
-/// The points of numbers, each with the place of its address and its edges. The error is want of memory.
+/// The points of numbers, each with the place of its code and its edges. The error is want of memory.
 pub fn points_of(
     alloc: Global,
     graph: &Graph,
     frames: &[Frame],
     aims: &Aims,
-    addresses: &[u32],
+    coded: Coded,
     called: &[usize],
 ) -> Result<Placed, AllocError>
     requires nodes { AreRising graph.now.nodes.items }
@@ -114,28 +158,27 @@ pub fn points_of(
     requires root { (i : ℕ) → i < length aims.now.keys.now → numbers.root_of (slice_index aims.now.keys.now i) ≤ 16777216 }
     requires low { (i : ℕ) → i < length aims.now.keys.now → numbers.turns_of (slice_index aims.now.keys.now i) ≤ 4096 }
     requires among { (i : ℕ) → i < length aims.now.keys.now → Contains (addresses_of graph.now) (numbers.address_of (slice_index aims.now.keys.now i)) }
-    requires coded { (i : ℕ) → i < length aims.now.keys.now → Contains addresses.now (numbers.address_of (slice_index aims.now.keys.now i)) }
-    requires addresses { IsStrictlyIncreasing addresses.now }
-    requires short { length addresses.now ≤ 16777216 }
+    requires coded { (i : ℕ) → i < length aims.now.keys.now → HasCode (deed_at aims.now.heads.now aims.now.stepped.now (slice_index aims.now.keys.now i))
+        coded.rows.now coded.steps.now (numbers.address_of (slice_index aims.now.keys.now i)) }
+    requires rows { IsStrictlyIncreasing coded.rows.now }
+    requires few_rows { length coded.rows.now ≤ 16777216 }
+    requires steps { IsStrictlyIncreasing coded.steps.now }
+    requires few_steps { length coded.steps.now ≤ 16777216 }
     requires called { length called.now ≡ length aims.now.keys.now }
-    ensures { IfOk result (λ v. ArePlaced graph.now aims.now.heads.now aims.now.asserts.now frames.now aims.now.keys.now addresses.now called.now (length
-        aims.now.keys.now)
-        v.points.items v.edges.items) }
+    ensures { IfOk result (λ v. ArePlaced graph.now aims.now.heads.now aims.now.stepped.now aims.now.asserts.now frames.now aims.now.keys.now
+        coded.entry.rows.now coded.entry.steps.now called.now (length aims.now.keys.now) v.points.items v.edges.items) }
 {
     let mut points: Vec<Point> = Vec::with_capacity(alloc, aims.keys.len())?;
     let mut edges: Vec<Edge> = Vec::new(alloc);
     for place in 0..aims.keys.len() {
         let key = aims.keys[place];
-        let code = match address_place(addresses, address_of(key)) {
-            None => unreachable!(),
-            Some(code) => code,
-        };
+        let deed = deed(aims, key);
+        let code = code_place(coded, deed, address_of(key));
         let begin = edges.len();
-        let arrival = is_arrival(aims.heads, key);
         add_left(
             alloc,
             &mut edges,
-            arrival,
+            deed,
             graph,
             frames,
             aims,
@@ -147,7 +190,7 @@ pub fn points_of(
             turns: turns_of(key),
             code: code as u32,
             stack: stack_of(key),
-            deed: deed(arrival),
+            deed,
             edges: begin,
         })?;
     }

@@ -35,7 +35,7 @@ pub fn plus(a: u128, b: u128) -> u128
 }
 
 /// The product of two numbers, at most 2^128 - 1.
-fn times(a: u128, b: u128) -> u128
+pub fn times(a: u128, b: u128) -> u128
     ensures { (x y : ℕ) → a ≡ capped x → b ≡ capped y → result ≡ capped (x * y) }
 {
     a.saturating_mul(b)
@@ -59,7 +59,7 @@ fn leads_out(edge: Edge) -> bool
 }
 
 /// Whether one of some edges leads out of the function.
-fn any_out(edges: &[Edge]) -> bool
+pub fn any_out(edges: &[Edge]) -> bool
     ensures { result ≡ list_any (λ e. goes_out (edge_of e)) edges.now }
 {
     edges.iter().any(|e| leads_out(*e))

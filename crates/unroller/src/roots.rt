@@ -43,8 +43,8 @@ fn first_key(entry: u32, number: u32, head: Option<Head>) -> u128
     ensures { result ≡ roots.first_key entry number head }
 {
     match head {
-        None => key_of(number, 0, entry, 0),
-        Some(head) => key_of(number, 0, head.at, head.stack),
+        None => key_of(number, 0, entry, 0, false),
+        Some(head) => key_of(number, 0, head.at, head.stack, false),
     }
 }
 

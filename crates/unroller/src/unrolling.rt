@@ -1,21 +1,33 @@
 //! The unrolled program of a program, and the unrolled frame of a frame.
-ghost use Rattle.std.specs.Prelude.{◌≡◌, ◌≤◌, ◌<◌, ◌^◌, ℕ, Bool, false, [], None, IfOk, IfErr, Contains, length, slice_index_or};
+ghost use Rattle.std.specs.Prelude.{◌≡◌, ◌↔◌, ◌≤◌, ◌<◌, ◌^◌, ℕ, Bool, true, false, [], None, IfOk, IfErr, Contains, filter, length, map, slice_index_or};
+ghost use Rattle.std.specs.List.Sorted.{IsNonDecreasingBy, IsStrictlyIncreasing};
 ghost use Rattle.bilv_spec.specs.Elf.{IsKeptRuns};
 ghost use Rattle.bilv_spec.specs.Files.{order_of, program_of};
-ghost use Rattle.graph_nodes.specs.Graphs.{IsFlagSet, IsGraph};
+ghost use Rattle.bilv_spec.specs.Notes.{Notes as SpecNotes};
+ghost use Rattle.bilv_spec.specs.Run.{Program};
+ghost use Rattle.flag_live.specs.Asked.{unasked};
+ghost use Rattle.flag_live.specs.Keeps.{LiveStayWith};
+ghost use Rattle.graph_nodes.specs.Graphs.{IsFlagSet, IsGraph, addresses_of};
+ghost use Rattle.graph_nodes.specs.Places.{AreRising};
+ghost use Rattle.notes_value.specs.FrameViews.{contract_of};
 ghost use Rattle.notes_value.specs.NoteViews.{notes_of};
+ghost use Rattle.notes_value.specs.declared.notes.Contract.{Contract as ListedContract};
 ghost use Rattle.frame_spec.specs.FramePoints.{has_heads};
 ghost use Rattle.frame_spec.specs.FrameUnrolling as frames;
 ghost use Rattle.frame_spec.specs.FrameWalk as walks;
 ghost use Rattle.program_points.specs.Listed.{HasTooMany, IsTooMany};
-ghost use Rattle.question_form.specs.Forms.{AreRootsFormed, IsFormed};
+ghost use Rattle.question_form.specs.Forms.{AreRootsFormed, AreStepsFormed, IsFormed};
 ghost use Rattle.question_form.specs.FrameViews.{IsHeadless, frame_unrolled_of};
 ghost use Rattle.question_form.specs.Views.{unrolled_of};
 ghost use Rattle.question_form.specs.declared.unrolled.Root.{Root};
 ghost use Rattle.unroller.specs.Asking.{frame_of, program_asking};
+ghost use Rattle.unroller.specs.Frames.{parts_frame};
+ghost use Rattle.unroller.specs.Heads.{head_places};
+ghost use Rattle.unroller.specs.Keys.{address_of, is_of};
+ghost use Rattle.unroller.specs.Steps.{AreAllCodes, WritesFew};
 ghost use Rattle.unroller.specs.Lookups.{HasForm};
 ghost use Rattle.unroller.specs.RootPoints.{BeginAtOwn, IsEntryFirst};
-ghost use Rattle.unroller.specs.Rows.{AssignsLiveOnly, HasListsOf};
+ghost use Rattle.unroller.specs.Rows.{AssignsLiveOnly, CanBeRead, HasListsOf};
 ghost use Rattle.known_bytes.specs.Runs.{AreRuns};
 ghost use Rattle.start_value.specs.Starts.{layout_of};
 ghost use Rattle.walk_spec.specs.Unrolled.{byte_of_runs, point_at};
@@ -24,18 +36,19 @@ ghost use Rattle.walk_spec.specs.Unrolling.{IsUnrolling};
 use crate::codes::{codes_at, literals_at};
 use crate::keys::{Aims, addresses};
 use crate::numbering::number_points;
-use crate::placing::{calls, points_of};
+use crate::placing::{Coded, calls, points_of};
 use crate::roots::{heads, roots_of};
+use crate::steps::{add_codes, contract_addresses};
 use elf32_reader::Image;
-use flag_live::trim;
+use flag_live::{keep, trim};
 use graph_nodes::Graph;
 use known_bytes::known_bytes;
 use machine_law::{Machine, is_narrow};
 use notes_index::index_of;
-use notes_value::Notes;
-use program_points::PointsFault;
-use question_form::Unrolled;
-use std::alloc::Global;
+use notes_value::{Contract, Notes};
+use program_points::{Cuts, PointsFault};
+use question_form::{Code, Unrolled};
+use std::alloc::{AllocError, Global};
 
 /// The runs of kept addresses, which are words.
 fn kept<'a>(image: &'a Image<'a>) -> &'a [(u32, u32)]
@@ -57,7 +70,117 @@ fn no_invariants<'a>() -> &'a [u32]
     &[]
 }
 
-/// The unrolled frame, as `unroll_frame` makes it, of a function that is asked for flags at the exit besides those of its notes: the set `out`, N 8, Z 4, C 2
+/// The contracts of notes that have none.
+fn no_contracts<'a>() -> &'a [Contract]
+    ensures { result.now ≡ [] }
+{
+    &[]
+}
+
+/// What makes a frame, besides a file: its notes, the numbers of those assert lines that are invariants, its address, the contracts that its calls step over, in
+/// the order of their ranks, and the contract whose frame it is, if it is one's; and all contracts of the notes. The notes are the frame's: of a contract's frame
+/// they require what the contract needs, and ensure and fix nothing.
+#[derive(Clone, Copy)]
+pub struct FrameParts<'a> {
+    pub notes: &'a Notes,
+    pub invariants: &'a [u32],
+    pub entry: u32,
+    pub stepped: &'a [Contract],
+    pub own: Option<&'a Contract>,
+    pub contracts: &'a [Contract],
+}
+
+/// The flags whose assignments stay wherever they are: all of them where a contract could read one.
+fn always_kept(contracts: &[Contract]) -> u8
+    ensures few { result < 16 }
+    ensures none { contracts.now ≡ [] → result ≡ 0 }
+    ensures some { CanBeRead (map contract_of contracts.now) result }
+{
+    if contracts.is_empty() {
+        return 0;
+    }
+    15
+}
+
+/// The graph in which the assignments of flags stay that are live, where those of the set `out` are asked for at the exit, and those of the set `always`. The
+/// error is want of memory.
+fn live_graph(alloc: Global, graph: &Graph, out: u8, always: u8) -> Result<Graph, AllocError>
+    ensures graph { (p : Program) → IsFlagSet out p.out → IsGraph (unasked p) graph.now → IfOk result (λ t. IsGraph p t) }
+    ensures live { (p : Program) → IsFlagSet out p.out → IsGraph (unasked p) graph.now → IfOk result (λ t. LiveStayWith p always t) }
+{
+    let trimmed = trim(alloc, graph, out)?;
+    let kept = keep(alloc, &trimmed, always)?;
+    Ok(kept)
+}
+
+/// Where the runs of a frame are cut, and the addresses of the contracts that it steps over, in their order.
+#[derive(Drop)]
+struct CutPlaces {
+    heads: Vec<u32>,
+    stepped: Vec<u32>,
+}
+
+/// The places of a frame's cuts. The error is want of memory.
+fn cut_places(alloc: Global, parts: &FrameParts) -> Result<CutPlaces, AllocError>
+    ensures heads { IfOk result (λ v. (x : ℕ) → Contains (head_places parts.now.invariants.now (notes_of parts.now.notes.now).asserts) x
+        ↔ Contains v.heads.items x) }
+    ensures stepped { IfOk result (λ v. v.stepped.items ≡ map (λ x. x.at) parts.now.stepped.now) }
+{
+    let heads = heads(alloc, parts.notes, parts.invariants)?;
+    let stepped = contract_addresses(alloc, parts.stepped)?;
+    Ok(CutPlaces { heads, stepped })
+}
+
+/// The addresses that have codes: those of rows, and those of contract steps, each once and rising.
+#[derive(Drop)]
+struct CodePlaces {
+    rows: Vec<u32>,
+    steps: Vec<u32>,
+}
+
+/// The addresses of the points of numbers, of rows and of contract steps. The error is want of memory.
+fn code_places(alloc: Global, keys: &[u128]) -> Result<CodePlaces, AllocError>
+    ensures rows { IfOk result (λ v. IsStrictlyIncreasing v.rows.items) }
+    ensures steps { IfOk result (λ v. IsStrictlyIncreasing v.steps.items) }
+    ensures few_rows { IfOk result (λ v. length v.rows.items ≤ length keys.now) }
+    ensures few_steps { IfOk result (λ v. length v.steps.items ≤ length keys.now) }
+    ensures of_rows { IfOk result (λ v. (x : ℕ) → Contains (map address_of (filter (is_of false) keys.now)) x ↔ Contains v.rows.items x) }
+    ensures of_steps { IfOk result (λ v. (x : ℕ) → Contains (map address_of (filter (is_of true) keys.now)) x ↔ Contains v.steps.items x) }
+{
+    let rows = addresses(alloc, keys, false)?;
+    let steps = addresses(alloc, keys, true)?;
+    Ok(CodePlaces { rows, steps })
+}
+
+/// What stands at the addresses that have codes, of rows each with its part of the assert lines by address; by the contracts that are stepped over and their
+/// addresses. The error is want of memory.
+fn all_codes<M: Machine>(
+    alloc: Global,
+    image: &Image,
+    graph: &Graph,
+    coded: Coded,
+    asserts: &[(u32, usize)],
+    contracts: &[Contract],
+    stepped: &[u32],
+) -> Result<Vec<Code>, AllocError>
+    requires order { order_of image.now ≡ M.machine.endian }
+    requires nodes { AreRising graph.now.nodes.items }
+    requires rows { (a : ℕ) → Contains coded.rows.now a → Contains (addresses_of graph.now) a }
+    requires sorted { IsNonDecreasingBy (λ x. x.0) asserts.now }
+    requires stepped { stepped.now ≡ map (λ x. x.at) contracts.now }
+    requires steps { (a : ℕ) → Contains coded.steps.now a → Contains stepped.now a }
+    requires few { (x : ListedContract) → Contains contracts.now x → WritesFew x }
+    ensures { (n : SpecNotes) (e : ℕ) (o : ℕ → Bool) (always : ℕ) → IsGraph (program_asking M.machine image.now n e o) graph.now →
+        LiveStayWith (program_asking M.machine image.now n e o) always graph.now →
+        IfOk result (λ v. AreAllCodes (program_asking M.machine image.now n e o) M.bank always contracts.now stepped.now coded.entry.rows.now
+        coded.entry.steps.now asserts.now v.items) }
+{
+    let mut codes = codes_at::<M>(alloc, image, graph, coded.rows, asserts)?;
+    add_codes(&mut codes, contracts, stepped, coded.steps)?;
+    Ok(codes)
+}
+
+/// The unrolled frame, as `unroll_contracted` makes it, of a function that is asked for flags at the exit besides those of its notes: the set `out`, N 8, Z 4, C 2
 /// and V 1. What is asked for is read at the exit, so that its assignments stay.
 ///
 /// # Errors
@@ -67,9 +190,7 @@ fn unroll_with<'a, M: Machine>(
     alloc: Global,
     graph: &Graph,
     image: &'a Image<'a>,
-    notes: &'a Notes,
-    invariants: &'a [u32],
-    entry: u32,
+    parts: &FrameParts<'a>,
     out: u8,
     k: u64,
     max: u64,
@@ -78,17 +199,23 @@ fn unroll_with<'a, M: Machine>(
     requires max { max ≤ 16777216 }
     requires k { k ≤ 4096 }
     requires out { out < 16 }
-    requires graph { IsGraph (program_of M.machine image.now (notes_of notes.now) entry) graph.now }
+    requires graph { IsGraph (program_of M.machine image.now (notes_of parts.now.notes.now) parts.now.entry) graph.now }
+    requires few { (x : ListedContract) → Contains parts.now.stepped.now x → WritesFew x }
     ensures unrolled { (asked : ℕ → Bool) → IsFlagSet out asked → IfOk result (λ u.
-        frames.IsUnrolling (frame_of (program_asking M.machine image.now (notes_of notes.now) entry asked) invariants.now) [] k (frame_unrolled_of u)) }
-    ensures lists { (asked : ℕ → Bool) → IsFlagSet out asked →
-        IfOk result (λ u. HasListsOf (program_asking M.machine image.now (notes_of notes.now) entry asked) M.bank (unrolled_of u)) }
-    ensures lean { (asked : ℕ → Bool) → IsFlagSet out asked →
-        IfOk result (λ u. AssignsLiveOnly (program_asking M.machine image.now (notes_of notes.now) entry asked) (unrolled_of u)) }
+        frames.IsUnrolling (parts_frame (program_asking M.machine image.now (notes_of parts.now.notes.now) parts.now.entry asked) parts.now)
+        (map contract_of parts.now.contracts.now) k (frame_unrolled_of u)) }
+    ensures lists { (asked : ℕ → Bool) → IsFlagSet out asked → parts.now.stepped.now ≡ [] → parts.now.contracts.now ≡ [] →
+        IfOk result (λ u. HasListsOf (program_asking M.machine image.now (notes_of parts.now.notes.now) parts.now.entry asked) M.bank (unrolled_of u)) }
+    ensures lean { (asked : ℕ → Bool) → IsFlagSet out asked → parts.now.stepped.now ≡ [] → parts.now.contracts.now ≡ [] →
+        IfOk result (λ u. AssignsLiveOnly (program_asking M.machine image.now (notes_of parts.now.notes.now) parts.now.entry asked) (unrolled_of u)) }
     ensures formed { IfOk result (λ u. IsFormed u) }
     ensures roots { IfOk result (λ u. AreRootsFormed u) }
-    ensures invariants { IfOk result (λ u. u.invariants.now ≡ invariants.now) }
-    ensures heads { IfOk result (λ u. u.heads ≡ has_heads (frame_of (program_of M.machine image.now (notes_of notes.now) entry) invariants.now)) }
+    ensures steps { IfOk result (λ u. AreStepsFormed u) }
+    ensures invariants { IfOk result (λ u. u.invariants.now ≡ parts.now.invariants.now) }
+    ensures stepped { IfOk result (λ u. u.stepped ≡ parts.now.stepped) }
+    ensures owned { IfOk result (λ u. u.own ≡ parts.now.own) }
+    ensures heads { IfOk result (λ u.
+        u.heads ≡ has_heads (parts_frame (program_of M.machine image.now (notes_of parts.now.notes.now) parts.now.entry) parts.now)) }
     ensures own { IfOk result (λ u. BeginAtOwn u) }
     ensures first { IfOk result (λ u. IsEntryFirst u) }
     ensures headed { IfOk result (λ u. u.heads ≡ false → (x : Root) → Contains u.roots.items x → x.head ≡ None) }
@@ -98,38 +225,57 @@ fn unroll_with<'a, M: Machine>(
     ensures layout { IfOk result (λ u. layout_of u.form ≡ M.form) }
     ensures runs { IfOk result (λ u. AreRuns u.known.items) }
     ensures beyond { (x : ℕ) → 2 ^ 32 ≤ x → IfOk result (λ u. byte_of_runs (unrolled_of u).known x ≡ None) }
-    ensures headless { invariants.now ≡ [] → IfOk result (λ u. IsHeadless u) }
+    ensures headless { parts.now.invariants.now ≡ [] → parts.now.stepped.now ≡ [] → parts.now.own ≡ None → IfOk result (λ u. IsHeadless u) }
     ensures more { (asked : ℕ → Bool) → IsFlagSet out asked →
-        IfErr result (HasTooMany (frame_of (program_asking M.machine image.now (notes_of notes.now) entry asked) invariants.now) k max) }
+        IfErr result (HasTooMany (parts_frame (program_asking M.machine image.now (notes_of parts.now.notes.now) parts.now.entry asked) parts.now) k max) }
 {
     image.bytes();
-    let live = trim(alloc, graph, out)?;
-    let heads = heads(alloc, notes, invariants)?;
-    let listed = number_points(alloc, &live, &heads, entry, k, max)?;
+    let live = live_graph(alloc, graph, out, always_kept(parts.contracts))?;
+    let places = cut_places(alloc, parts)?;
+    let cuts = Cuts {
+        heads: &places.heads,
+        stepped: &places.stepped,
+    };
+    let listed = number_points(alloc, &live, &cuts, parts.entry, k, max)?;
     let keys = listed.keys;
     let mut stacks = listed.stacks;
-    let addresses = addresses(alloc, &keys)?;
-    let index = index_of(alloc, notes)?;
+    let addresses = code_places(alloc, &keys)?;
+    let index = index_of(alloc, parts.notes)?;
     let called = calls(alloc, &live, &mut stacks, &keys)?;
-    let codes = codes_at::<M>(alloc, image, &live, &addresses, &index.asserts)?;
-    let literals = literals_at::<M>(alloc, image, &live, &addresses)?;
-    let roots = roots_of(alloc, &listed.segments, &keys, &index.asserts, entry)?;
+    let coded = Coded {
+        rows: &addresses.rows,
+        steps: &addresses.steps,
+    };
+    let codes = all_codes::<M>(
+        alloc,
+        image,
+        &live,
+        coded,
+        &index.asserts,
+        parts.stepped,
+        &places.stepped,
+    )?;
+    let literals = literals_at::<M>(alloc, image, &live, &addresses.rows)?;
+    let roots = roots_of(alloc, &listed.segments, &keys, &index.asserts, parts.entry)?;
     let aims = Aims {
-        heads: &heads,
+        heads: &places.heads,
+        stepped: &places.stepped,
         asserts: &index.asserts,
         keys: &keys,
     };
-    let placed = points_of(alloc, &live, &stacks.frames, &aims, &addresses, &called)?;
-    let known = known_bytes(alloc, image, notes)?;
+    let placed = points_of(alloc, &live, &stacks.frames, &aims, coded, &called)?;
+    let known = known_bytes(alloc, image, parts.notes)?;
     Ok(Unrolled {
         form: M::layout(),
         big: image.is_big_machine(),
         narrow: is_narrow::<M>(),
         link: M::link(),
-        entry,
-        notes,
-        invariants,
-        heads: !heads.is_empty(),
+        entry: parts.entry,
+        notes: parts.notes,
+        invariants: parts.invariants,
+        heads: !places.heads.is_empty(),
+        stepped: parts.stepped,
+        own: parts.own,
         asserts: index.asserts,
         kept: kept(image),
         known: known.runs,
@@ -181,17 +327,15 @@ pub fn unroll_asking<'a, M: Machine>(
     ensures more { (asked : ℕ → Bool) → IsFlagSet out asked →
         IfErr result (IsTooMany (program_asking M.machine image.now (notes_of notes.now) entry asked) k max) }
 {
-    let unrolled = unroll_with::<M>(
-        alloc,
-        graph,
-        image,
+    let parts = FrameParts {
         notes,
-        no_invariants(),
+        invariants: no_invariants(),
         entry,
-        out,
-        k,
-        max,
-    )?;
+        stepped: no_contracts(),
+        own: None,
+        contracts: no_contracts(),
+    };
+    let unrolled = unroll_with::<M>(alloc, graph, image, &parts, out, k, max)?;
     Ok(unrolled)
 }
 
@@ -258,8 +402,11 @@ pub fn unroll_frame<'a, M: Machine>(
     requires graph { IsGraph (program_of M.machine image.now (notes_of notes.now) entry) graph.now }
     ensures unrolled { IfOk result (λ u.
         frames.IsUnrolling (frame_of (program_of M.machine image.now (notes_of notes.now) entry) invariants.now) [] k (frame_unrolled_of u)) }
+    ensures lists { IfOk result (λ u. HasListsOf (program_of M.machine image.now (notes_of notes.now) entry) M.bank (unrolled_of u)) }
+    ensures lean { IfOk result (λ u. AssignsLiveOnly (program_of M.machine image.now (notes_of notes.now) entry) (unrolled_of u)) }
     ensures formed { IfOk result (λ u. IsFormed u) }
     ensures roots { IfOk result (λ u. AreRootsFormed u) }
+    ensures steps { IfOk result (λ u. AreStepsFormed u) }
     ensures heads { IfOk result (λ u. u.heads ≡ has_heads (frame_of (program_of M.machine image.now (notes_of notes.now) entry) invariants.now)) }
     ensures own { IfOk result (λ u. BeginAtOwn u) }
     ensures first { IfOk result (λ u. IsEntryFirst u) }
@@ -272,6 +419,62 @@ pub fn unroll_frame<'a, M: Machine>(
     ensures beyond { (x : ℕ) → 2 ^ 32 ≤ x → IfOk result (λ u. byte_of_runs (frame_unrolled_of u).known x ≡ None) }
     ensures more { IfErr result (HasTooMany (frame_of (program_of M.machine image.now (notes_of notes.now) entry) invariants.now) k max) }
 {
-    let unrolled = unroll_with::<M>(alloc, graph, image, notes, invariants, entry, 0, k, max)?;
+    let parts = FrameParts {
+        notes,
+        invariants,
+        entry,
+        stepped: no_contracts(),
+        own: None,
+        contracts: no_contracts(),
+    };
+    let unrolled = unroll_contracted::<M>(alloc, graph, image, &parts, k, max)?;
+    Ok(unrolled)
+}
+
+/// The unrolled frame of a frame with contracts: a call of a contract that the frame steps over leads to a point where the contract step is made, which is left
+/// by its return. In lists the assignments of all flags stay where a contract of the notes could read one. All else is as `unroll_frame` makes it.
+///
+/// # Errors
+///
+/// `TooMany` with the count `max + 1` exactly where there are more than `max` points; want of memory.
+pub fn unroll_contracted<'a, M: Machine>(
+    alloc: Global,
+    graph: &Graph,
+    image: &'a Image<'a>,
+    parts: &FrameParts<'a>,
+    k: u64,
+    max: u64,
+) -> Result<Unrolled<'a>, PointsFault>
+    requires order { order_of image.now ≡ M.machine.endian }
+    requires max { max ≤ 16777216 }
+    requires k { k ≤ 4096 }
+    requires graph { IsGraph (program_of M.machine image.now (notes_of parts.now.notes.now) parts.now.entry) graph.now }
+    requires few { (x : ListedContract) → Contains parts.now.stepped.now x → WritesFew x }
+    ensures unrolled { IfOk result (λ u.
+        frames.IsUnrolling (parts_frame (program_of M.machine image.now (notes_of parts.now.notes.now) parts.now.entry) parts.now)
+        (map contract_of parts.now.contracts.now) k (frame_unrolled_of u)) }
+    ensures lists { parts.now.stepped.now ≡ [] → parts.now.contracts.now ≡ [] →
+        IfOk result (λ u. HasListsOf (program_of M.machine image.now (notes_of parts.now.notes.now) parts.now.entry) M.bank (unrolled_of u)) }
+    ensures lean { parts.now.stepped.now ≡ [] → parts.now.contracts.now ≡ [] →
+        IfOk result (λ u. AssignsLiveOnly (program_of M.machine image.now (notes_of parts.now.notes.now) parts.now.entry) (unrolled_of u)) }
+    ensures formed { IfOk result (λ u. IsFormed u) }
+    ensures roots { IfOk result (λ u. AreRootsFormed u) }
+    ensures steps { IfOk result (λ u. AreStepsFormed u) }
+    ensures stepped { IfOk result (λ u. u.stepped ≡ parts.now.stepped) }
+    ensures owned { IfOk result (λ u. u.own ≡ parts.now.own) }
+    ensures heads { IfOk result (λ u.
+        u.heads ≡ has_heads (parts_frame (program_of M.machine image.now (notes_of parts.now.notes.now) parts.now.entry) parts.now)) }
+    ensures own { IfOk result (λ u. BeginAtOwn u) }
+    ensures first { IfOk result (λ u. IsEntryFirst u) }
+    ensures headed { IfOk result (λ u. u.heads ≡ false → (x : Root) → Contains u.roots.items x → x.head ≡ None) }
+    ensures few { IfOk result (λ u. length u.points.items ≤ max) }
+    ensures form { IfOk result (λ u. HasForm M.machine u) }
+    ensures addresses { IfOk result (λ u. (i : ℕ) → i < length (frame_unrolled_of u).points → (walks.point_at (frame_unrolled_of u) i).point.at < 2 ^ 32) }
+    ensures layout { IfOk result (λ u. layout_of u.form ≡ M.form) }
+    ensures runs { IfOk result (λ u. AreRuns u.known.items) }
+    ensures beyond { (x : ℕ) → 2 ^ 32 ≤ x → IfOk result (λ u. byte_of_runs (frame_unrolled_of u).known x ≡ None) }
+    ensures more { IfErr result (HasTooMany (parts_frame (program_of M.machine image.now (notes_of parts.now.notes.now) parts.now.entry) parts.now) k max) }
+{
+    let unrolled = unroll_with::<M>(alloc, graph, image, parts, 0, k, max)?;
     Ok(unrolled)
 }

@@ -1,12 +1,13 @@
 use Rattle.std.proofs.Common.{ℕ}
 use Rattle.std.specs.Prelude.{Bool}
 use Rattle.bilv_spec.specs.Notes.{Notes}
-use Rattle.graph_nodes.specs.Graphs.{IsGraph, LiveStay}
+use Rattle.flag_live.specs.Keeps.{LiveStayWith}
+use Rattle.graph_nodes.specs.Graphs.{IsGraph}
 use Rattle.unroller.specs.Asking.{program_asking}
 use Rattle.unroller.specs.Places.{AreCodes}
 use Rattle.unroller.proofs.codes.codes_at.Given as goal
 
 abbrev pub invariant-loop-at : goal.invariant-loop-at
-invariant-loop-at g l = (n : Notes) (e : ℕ) (o : ℕ → Bool) → IsGraph (program_asking g.M.Machine.machine l.image n e o) l.graph →
-    LiveStay (program_asking g.M.Machine.machine l.image n e o) l.graph →
-    AreCodes (program_asking g.M.Machine.machine l.image n e o) g.M.Machine.bank l.addresses l.asserts l.at-index l.codes.items
+invariant-loop-at g l = (n : Notes) (e : ℕ) (o : ℕ → Bool) (always : ℕ) → IsGraph (program_asking g.M.Machine.machine l.image n e o) l.graph →
+    LiveStayWith (program_asking g.M.Machine.machine l.image n e o) always l.graph →
+    AreCodes (program_asking g.M.Machine.machine l.image n e o) g.M.Machine.bank always l.addresses l.asserts l.at-index l.codes.items

@@ -15,20 +15,20 @@ returns-clause-same c =
     (elim c.match-next.branch [
       | in-Some+in_ok-push-2 w ↦
           rw (w.found-is)
-          (map_listed (target_key c.args.own) c.args.jumps.now c.loop-end.end-index c.args.next
+          (map_listed (target_key c.args.stepped.now c.args.linked c.args.own) c.args.jumps.now c.loop-end.end-index c.args.next
           (Some w.in-Some.end) c.loop-end.found.items w.push-in-Some.new.self.items c.loop-end-test.false
           c.loop-end.invariant.found w.in-Some.is (w.in_ok-push-2.ensures.items ∙ ap
           (λ k. c.loop-end.found.items ++ k ∷ []) w.target_key-in-Some.ensures.value))
       | in_default w ↦
           rw (w.found-is)
-          (map_listed (target_key c.args.own) c.args.jumps.now c.loop-end.end-index c.args.next None c.loop-end.found.items c.loop-end.found.items
+          (map_listed (target_key c.args.stepped.now c.args.linked c.args.own) c.args.jumps.now c.loop-end.end-index c.args.next None c.loop-end.found.items c.loop-end.found.items
           c.loop-end-test.false c.loop-end.invariant.found w.in_default.is
           (nothing_more c.loop-end.found.items))
     ]) c.in_ok-ordered.ensures.same
 
 pub loop-end-init : goal.loop-end-init
 loop-end-init c = record {
-  found = c.new-found.ensures.items ∙ sym (ap (map (target_key c.args.own)) (take_none c.args.jumps.now));
+  found = c.new-found.ensures.items ∙ sym (ap (map (target_key c.args.stepped.now c.args.linked c.args.own)) (take_none c.args.jumps.now));
   small = λ e h. absurd (none_in e (subst (λ l. Contains l e) (take_none c.args.jumps.now) h));
 }
 
@@ -37,7 +37,7 @@ loop-end-preserved c =
     let none : End = record { stack = 0; at = 0 } in
     record {
       found =
-          map_more (target_key c.args.own) c.args.jumps.now c.loop-end.end-index none c.loop-end.found.items c.push.new.self.items c.loop-end-test.true
+          map_more (target_key c.args.stepped.now c.args.linked c.args.own) c.args.jumps.now c.loop-end.end-index none c.loop-end.found.items c.push.new.self.items c.loop-end-test.true
           c.loop-end.invariant.found
           (c.in_ok-push.ensures.items ∙ ap (λ k. c.loop-end.found.items ++ k ∷ []) c.target_key.ensures.value);
       small = λ e h.

@@ -6,6 +6,6 @@ use Rattle.unroller.proofs.edges.targets.Given as goal
 
 abbrev pub invariant-loop-end : goal.invariant-loop-end
 invariant-loop-end l = record {
-  found : l.found.items ≡ map (target_key l.own) (take l.end-index l.jumps);
+  found : l.found.items ≡ map (target_key l.stepped l.linked l.own) (take l.end-index l.jumps);
   small : (e : End) → Contains (take l.end-index l.jumps) e → e.at < 4294967296;
 }

@@ -23,13 +23,13 @@ point_keys-requires-clause-rooted c q h =
     (in_map segment_of c.deref-2.result.now q h)))
 
 -- the points that were listed
-module _ (c : goal.After-drop-listed-2) (f : frames.Frame) (of : IsFrameOf f c.args.graph.now c.args.heads.now c.args.entry) where
+module _ (c : goal.After-drop-listed-2) (f : frames.Frame) (of : IsFrameOf f c.args.graph.now c.args.cuts.now.heads.now c.args.cuts.now.stepped.now c.args.entry) where
   abbrev v : FramePoints
   v = c.in_ok-listed.listed
 
   segments_are : AreSegments f c.args.k v.stacks.frames.items c.in_ok-segments.segments.items
   segments_are =
-      are_segments f c.args.k v c.in_ok-segments.segments.items c.in_ok-keys.keys.items c.in_ok-point_keys.field-0.items of.plain
+      are_segments f c.args.k v c.in_ok-segments.segments.items c.in_ok-keys.keys.items c.in_ok-point_keys.field-0.items
       (c.in_ok-listed.ensures.points f of.graph of.begins of.way of.cuts) c.in_ok-listed.ensures.numbered c.in_ok-listed.ensures.rooted
       c.in_ok-listed.ensures.low c.requires.k (let s = c.in_ok-listed.ensures.few_stacks in let m = c.requires.max in omega arith)
       (subst (λ (l : List FramePoint). (q : FramePoint) → Contains l q → q.at < 4294967296) c.deref-2.ensures.value c.in_ok-point_keys.ensures.small)
@@ -42,7 +42,7 @@ module _ (c : goal.After-drop-listed-2) (f : frames.Frame) (of : IsFrameOf f c.a
 
   keys_are : AreKeys f c.args.k v.stacks.frames.items c.in_ok-segments.segments.items c.in_ok-keys.keys.items
   keys_are =
-      are_keys f c.args.k v c.in_ok-segments.segments.items c.in_ok-keys.keys.items c.in_ok-point_keys.field-0.items of.plain
+      are_keys f c.args.k v c.in_ok-segments.segments.items c.in_ok-keys.keys.items c.in_ok-point_keys.field-0.items
       (c.in_ok-listed.ensures.points f of.graph of.begins of.way of.cuts) c.in_ok-listed.ensures.numbered c.in_ok-listed.ensures.rooted
       c.in_ok-listed.ensures.low c.requires.k (let s = c.in_ok-listed.ensures.few_stacks in let m = c.requires.max in omega arith)
       (subst (λ (l : List FramePoint). (q : FramePoint) → Contains l q → q.at < 4294967296) c.deref-2.ensures.value c.in_ok-point_keys.ensures.small)

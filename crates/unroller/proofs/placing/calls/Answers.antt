@@ -5,6 +5,7 @@ use Rattle.program_points.specs.declared.values.Frame.{Frame}
 use Rattle.word_spec.specs.Words.{add}
 use Rattle.program_points.specs.Tables.{frame, IsCalled}
 use Rattle.program_points.proofs.Lists.{regroup}
+use Rattle.program_points.proofs.Expanded.{ok_zero}
 use Rattle.unroller.proofs.Adding.{called_more, pushed_few}
 use Rattle.unroller.proofs.placing.calls.Goals as goal
 
@@ -30,7 +31,8 @@ loop-key-preserved c =
           c.in-Some.node.now c.in_ok-number.number c.loop-key.invariant.called c.in_ok-push.ensures.items c.in-Some.ensures.1
           (c.in-Some.ensures.0 ∙ c.address_of.ensures)
           (subst (λ (s : ℕ). IsCalled c.in-Some.node.now s c.loop-key.stacks.frames.items c.called.new.stacks.frames.items c.in_ok-number.number)
-          c.stack_of.ensures more);
+          c.stack_of.ensures more)
+          (λ h. ok_zero c.called.result c.in_ok-number.number c.in_ok-number.was (c.called.ensures.none h).0);
     }
 
 pub returns-clause-begins : goal.returns-clause-begins

@@ -1,16 +1,20 @@
-use Rattle.std.proofs.Common.{ℕ, List, subst, rules, []}
+use Rattle.std.proofs.Common.{ℕ, List, refl, subst, rules, []}
 use Rattle.bilv_spec.specs.Run.{Program}
 use Rattle.frame_spec.specs.FrameUnrolling.{IsUnrolling}
 use Rattle.frame_spec.specs.FrameWalk.{UnrolledProgram}
 use Rattle.frame_spec.specs.Theorems.{headless}
 use Rattle.frame_laws.proofs.HeadlessUnrolled.{headless_unrolling}
+use Rattle.bilv_spec.proofs.PointsInGraph.{none_in}
+use Rattle.notes_value.specs.declared.notes.Contract.{Contract}
 use Rattle.notes_value.specs.NoteViews.{notes_of}
+use Rattle.std.specs.Prelude.{Contains}
 use Rattle.program_points.specs.Listed.{HasTooMany}
 use Rattle.program_points.proofs.Plain.{plain_fault}
 use Rattle.question_form.proofs.FrameValues.{headless_values}
 use Rattle.question_form.specs.FrameViews.{frame_unrolled_of}
 use Rattle.question_form.specs.Views.{unrolled_of}
 use Rattle.unroller.specs.Asking.{frame_of, program_asking}
+use Rattle.unroller.proofs.Fronts.{as_plain, plain_many}
 use Rattle.unroller.proofs.unrolling.unroll_asking.Goals as goal
 
 pub returns-clause-unrolled : goal.returns-clause-unrolled
@@ -19,14 +23,28 @@ returns-clause-unrolled g c asked is =
     let u = c.in_ok-unrolled.unrolled in
     ((headless_unrolling p c.args.k).0 (unrolled_of u)).1
     (subst (λ (z : UnrolledProgram). IsUnrolling (headless p) [] c.args.k z)
-    (headless_values u (c.in_ok-unrolled.ensures.headless c.no_invariants.ensures))
+    (headless_values u (c.in_ok-unrolled.ensures.headless c.no_invariants.ensures c.no_contracts.ensures refl))
     (subst (λ (l : List ℕ). IsUnrolling (frame_of p l) [] c.args.k (frame_unrolled_of u)) c.no_invariants.ensures
-    (c.in_ok-unrolled.ensures.unrolled asked is)))
+    (as_plain p c.no_invariants.result.now c.no_contracts.result.now c.no_contracts-2.result.now c.no_contracts.ensures c.no_contracts-2.ensures c.args.k
+    (frame_unrolled_of u) (c.in_ok-unrolled.ensures.unrolled asked is))))
+
+pub returns-clause-lists : goal.returns-clause-lists
+returns-clause-lists g c asked is = c.in_ok-unrolled.ensures.lists asked is c.no_contracts.ensures c.no_contracts-2.ensures
+
+pub returns-clause-lean : goal.returns-clause-lean
+returns-clause-lean g c asked is = c.in_ok-unrolled.ensures.lean asked is c.no_contracts.ensures c.no_contracts-2.ensures
+
+pub returns-clause-headless : goal.returns-clause-headless
+returns-clause-headless g c = c.in_ok-unrolled.ensures.headless c.no_invariants.ensures c.no_contracts.ensures refl
 
 pub returns-in_err-unrolled-clause-more : goal.returns-in_err-unrolled-clause-more
 returns-in_err-unrolled-clause-more g c asked is =
     let p : Program = program_asking g.M.Machine.machine c.args.image.now (notes_of c.args.notes.now) c.args.entry asked in
     let more = plain_fault p c.args.k c.args.max c.in_err-unrolled.field-0.0
     (subst (λ (l : List ℕ). HasTooMany (frame_of p l) c.args.k c.args.max c.in_err-unrolled.field-0.0) c.no_invariants.ensures
-    (c.in_err-unrolled.ensures.more asked is)) in
+    (plain_many p c.no_invariants.result.now c.no_contracts.result.now c.no_contracts-2.result.now c.no_contracts.ensures c.no_contracts-2.ensures c.args.k
+    c.args.max c.in_err-unrolled.field-0.0 (c.in_err-unrolled.ensures.more asked is))) in
     search rules
+
+pub unroll_with-requires-clause-few : goal.unroll_with-requires-clause-few
+unroll_with-requires-clause-few g c x h = none_in x (subst (λ (l : List Contract). Contains l x) c.no_contracts.ensures h)

@@ -1,16 +1,35 @@
-use Rattle.std.proofs.Common.{rules}
-use Rattle.std.specs.Prelude.{false}
-use Rattle.flag_live.proofs.FlagSets.{no_flags}
-use Rattle.unroller.proofs.Looked.{frame_words}
+use Rattle.std.proofs.Common.{List, subst, rules}
+use Rattle.bilv_spec.specs.Files.{program_of}
+use Rattle.bilv_spec.specs.Run.{Program}
+use Rattle.bilv_spec.proofs.PointsInGraph.{none_in}
+use Rattle.notes_value.specs.declared.notes.Contract.{Contract}
+use Rattle.notes_value.specs.NoteViews.{notes_of}
+use Rattle.question_form.specs.FrameViews.{frame_unrolled_of}
+use Rattle.std.specs.Prelude.{Contains}
+use Rattle.unroller.proofs.Fronts.{as_plain, plain_many}
 use Rattle.unroller.proofs.unrolling.unroll_frame.Goals as goal
 
-pub returns-clause-unrolled : goal.returns-clause-unrolled
-returns-clause-unrolled g c = c.in_ok-unrolled.ensures.unrolled (λ f. false) no_flags
+pub unroll_contracted-requires-clause-few : goal.unroll_contracted-requires-clause-few
+unroll_contracted-requires-clause-few g c x h = none_in x (subst (λ (l : List Contract). Contains l x) c.no_contracts.ensures h)
 
-pub returns-clause-addresses : goal.returns-clause-addresses
-returns-clause-addresses g c = frame_words c.in_ok-unrolled.unrolled c.in_ok-unrolled.ensures.addresses
+pub returns-clause-unrolled : goal.returns-clause-unrolled
+returns-clause-unrolled g c =
+    let p : Program = program_of g.M.Machine.machine c.args.image.now (notes_of c.args.notes.now) c.args.entry in
+    as_plain p c.args.invariants.now c.no_contracts.result.now c.no_contracts-2.result.now c.no_contracts.ensures c.no_contracts-2.ensures c.args.k
+    (frame_unrolled_of c.in_ok-unrolled.unrolled) c.in_ok-unrolled.ensures.unrolled
+
+pub returns-clause-lists : goal.returns-clause-lists
+returns-clause-lists g c = c.in_ok-unrolled.ensures.lists c.no_contracts.ensures c.no_contracts-2.ensures
+
+pub returns-clause-lean : goal.returns-clause-lean
+returns-clause-lean g c = c.in_ok-unrolled.ensures.lean c.no_contracts.ensures c.no_contracts-2.ensures
 
 pub returns-in_err-unrolled-clause-more : goal.returns-in_err-unrolled-clause-more
 returns-in_err-unrolled-clause-more g c =
-    let more = c.in_err-unrolled.ensures.more (λ f. false) no_flags in
+    let p : Program = program_of g.M.Machine.machine c.args.image.now (notes_of c.args.notes.now) c.args.entry in
+    let more = plain_many p c.args.invariants.now c.no_contracts.result.now c.no_contracts-2.result.now c.no_contracts.ensures c.no_contracts-2.ensures c.args.k
+    c.args.max c.in_err-unrolled.field-0.0 c.in_err-unrolled.ensures.more in
     search rules
+
+pub returns-clause-beyond : goal.returns-clause-beyond
+returns-clause-beyond g c x far = c.in_ok-unrolled.ensures.beyond x far
