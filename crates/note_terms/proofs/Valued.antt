@@ -24,7 +24,7 @@ use Rattle.term_names.specs.Views.{form_of, names_of}
 use Rattle.term_names.specs.Chosen.{HaveSameForm}
 use Rattle.note_terms.specs.declared.Now.{Now}
 use Rattle.note_terms.specs.Steps.{IsShown, IsZero, IsStep, operator_gates, gates_of, nodes_of}
-use Rattle.note_terms.specs.Lines.{IsStateOf, AreStateTerms, IsLine, IsValue}
+use Rattle.note_terms.specs.Lines.{IsStateOf, AreStateTerms, IsLine, IsWord, IsValue}
 use Rattle.note_terms.proofs.Steps.{step_made, step_kept, step_as, step_on}
 
 -- the names of a state stay names
@@ -455,6 +455,27 @@ line_made a b c d big e now entry z l t h h' k v s =
           s.value x ok
           ∙ ap (λ w. bit (is_true w)) (v.value x ok m n at from (is_state_stays a b _ _ _ _ _ now x m at first.grew h g)
           (is_state_stays a b _ _ _ _ _ entry x n from first.grew h' f));
+    }
+
+-- a word, from its value
+pub word_made : (a b c d : List TermNode) (big : Bool) (e : Expr) (now entry : Now) (z l t : ℕ) → AreStateTerms a now → AreStateTerms a entry →
+    IsInterned a b (ConstantNode 32 0) z →
+    IsValue b c big e now entry l → IsStep c d 0 0 1 (λ w. w ≡ 32) (λ x. term_word x c l) t → IsWord a d big e now entry t
+word_made a b c d big e now entry z l t h h' k v s =
+    let first : IsStep a b 0 0 1 (λ w. w ≡ 32) (λ x. 0) z = step_kept a b _ _ (ConstantNode 32 0) z k refl refl refl refl (λ i. i) (λ w e. e) (λ x r. refl) in
+    let enough = price_enough (operations e) (products e) (value_count e) (gates_of e) (products_few e) (gates_few e) in
+    let few = nodes_few e in
+    record {
+      grew = grew_more a d (0 + gates_of e + 0) (0 + bytes_loaded e + 0) 0 0 (1 + nodes_of e + 1) (line_price e - 64) (bytes_loaded e) 0 0
+          (4 * line_size e + 8)
+          (omega arith) (omega arith) (omega arith) (omega arith) (omega arith)
+          (grew_on a c d (0 + gates_of e) (0 + bytes_loaded e) 0 0 (1 + nodes_of e) 0 0 0 0 1
+          (grew_on a b c 0 0 0 0 1 (gates_of e) (bytes_loaded e) 0 0 (nodes_of e) first.grew v.grew) s.grew);
+      inputs = inputs_on a c d _ (inputs_on a b c _ first.inputs v.inputs) s.inputs;
+      width = (s.within, s.fits);
+      value = λ x ok m n at from g f.
+          s.value x ok
+          ∙ v.value x ok m n at from (is_state_stays a b _ _ _ _ _ now x m at first.grew h g) (is_state_stays a b _ _ _ _ _ entry x n from first.grew h' f);
     }
 
 -- a line costs 64 gates at least

@@ -32,6 +32,14 @@ pub record IsLine (old new : List TermNode) (big : Bool) (e : Expr) (now entry :
   pub value : (x : TermReading) → InRange x → (c d : Carried) (at from : ℕ) → IsStateOf old x now c at → IsStateOf old x entry d from →
       term_word x new t ≡ bit (is_true (value (endian big) e (state_at c at) (state_at d from)))
 
+-- A word of 32 bits is the value of an expression under every reading in range, in the state now, with the state at entry. It costs no more than a line.
+pub record IsWord (old new : List TermNode) (big : Bool) (e : Expr) (now entry : Now) (t : ℕ) : Type 0 where
+  pub grew : Grew old new (line_price e - 64) (bytes_loaded e) 0 0 (4 * line_size e + 8)
+  pub inputs : InputsFrom old new (λ m. ⊥)
+  pub width : HasWidth new 32 t
+  pub value : (x : TermReading) → InRange x → (c d : Carried) (at from : ℕ) → IsStateOf old x now c at → IsStateOf old x entry d from →
+      term_word x new t ≡ value (endian big) e (state_at c at) (state_at d from)
+
 -- A term is the value of an expression in the state now, with the state at entry.
 pub record IsValue (old new : List TermNode) (big : Bool) (e : Expr) (now entry : Now) (t : ℕ) : Type 0 where
   pub grew : Grew old new (gates_of e) (bytes_loaded e) 0 0 (nodes_of e)

@@ -42,6 +42,7 @@ module _ (u : Unrolled) (codes : Vec Code) (points : Vec Point) (edges : Vec Edg
   placed_headless h = record {
     invariants = h.invariants;
     heads = h.heads;
+    own = h.own;
     roots = h.roots;
     deeds = λ x c.
         ⊎_elim (h.deeds x) (λ o. ap (λ (z : Point). z.deed) (only_one q x o) ∙ row) (split_in u.points.items (q ∷ []) x (among x c));

@@ -43,6 +43,7 @@ use Rattle.passify.proofs.Lines.{at_map, drop_here}
 use Rattle.passify.proofs.Passed.{entry_anchor, head_anchor}
 use Rattle.passify.proofs.Planted.{none_false, said_assumed, take_more}
 use Rattle.passify.proofs.Pushed.{Placed, not_eq, placed_shows, placed_well, same_eq}
+use Rattle.passify.proofs.Pointed.{own_keeps}
 use Rattle.passify.proofs.Standing.{framed_is}
 
 no_true : true ≡ false → ⊥
@@ -214,6 +215,7 @@ module _ (u : Unrolled) (done : ℕ) (a b new : List TermNode) (s z : Sweep) (he
       at = p.at ∙ k.sweep.at;
       places = ap (λ (l : List Term). length l) p.met ∙ length-set s.met.items x.place t ∙ k.sweep.places;
     };
+    own = own_keeps u a new s z k.own g12 p.own p.at;
     named = named_on f u.heads a new (λ m. ⊥) (λ m i c. absurd c)
         (inputs_on a b new (λ m. ⊥) (interned_inputs a b (ConstantNode 32 v) pc (λ m. ⊥) m1 (λ i. i)) m2.inputs) k.named;
     room = (

@@ -1,6 +1,6 @@
 -- What a point costs.
-use Rattle.std.proofs.Common.{◌≡◌, ℕ, suc, ◌+◌, ◌*◌, ◌≤◌, Bool, true, false, List, [], ◌∷◌, ◌++◌, Option, Some, None, length, map, refl, ap, sym, ◌∙◌, arith, Contains}
-use Rattle.std.specs.Prelude.{if◌then◌else◌, ◌||◌, sum_by}
+use Rattle.std.proofs.Common.{◌≡◌, ℕ, zero, suc, ◌+◌, ◌*◌, ◌≤◌, Bool, true, false, List, [], ◌∷◌, ◌++◌, Option, Some, None, length, map, refl, ap, sym, ◌∙◌, subst, arith, Contains}
+use Rattle.std.specs.Prelude.{◌-◌, if◌then◌else◌, ◌||◌, slice_range, sum_by}
 use Rattle.std.specs.List.{flat_map, list_any}
 use Rattle.std.specs.Global.{Vec}
 use Rattle.std.proofs.lemmas.Nat.{mul-le}
@@ -8,29 +8,35 @@ use Rattle.std.proofs.lemmas.List.Sums.{sum_by-cons, sum_by-append}
 use Rattle.std.proofs.lemmas.List.Concat.{flat_map-append}
 use Rattle.std.proofs.lemmas.List.Folds.{list_any-append}
 use Rattle.word_spec.specs.Words.{bit}
-use Rattle.bilv_spec.specs.Notes.{Expr}
+use Rattle.bilv_spec.specs.Notes.{Expr, NoteLine}
 use Rattle.bilv_spec.specs.Points.{line_price, bytes_loaded}
 use Rattle.machine_spec.specs.Bil.{list_size}
 use Rattle.machine_spec.specs.BilCounts.{list_weight, byte_loads, byte_stores}
 use Rattle.bil_ast.specs.declared.statements.Stmt.{Stmt}
 use Rattle.bil_ast.specs.Views.{statements}
-use Rattle.bil_terms.specs.declared.stored.Stored.{Stored}
 use Rattle.walk_spec.specs.Prices.{line_size, line_steps}
-use Rattle.frame_spec.specs.FrameWalk.{Check, PointExit, FalseCheck, Raising, WritingKept, Unaligned}
-use Rattle.frame_laws.specs.FramePrices.{action_lines, action_size, goes_out, is_edge, line_of, lines_at, lines_into, variables_of}
+use Rattle.frame_spec.specs.Frames.{Contract, Writes}
+use Rattle.frame_spec.specs.FramePoints.{says_of}
+use Rattle.frame_spec.specs.FrameUnrolling.{outside_exit}
+use Rattle.frame_spec.specs.FrameWalk.{Action, Check, Executes, PointExit, FalseCheck, FalseNeed, NotGiven, Raising, WritingKept, WritingOutside, Unaligned}
+use Rattle.frame_laws.specs.FramePrices.{action_lines, action_size, goes_out, is_edge, line_of, lines_at, lines_into, own_writes, variables_of}
 use Rattle.question_form.specs.declared.unrolled.Aim.{Aim}
 use Rattle.question_form.specs.declared.unrolled.Aim.TheVariants.{OnTo, IntoHead, Outward, OverLast}
 use Rattle.question_form.specs.declared.unrolled.Edge.{Edge}
 use Rattle.question_form.specs.declared.unrolled.Unrolled.{Unrolled}
 use Rattle.question_form.specs.declared.unrolled.Deed.{Deed}
 use Rattle.question_form.specs.declared.unrolled.Deed.TheVariants as deeds
-use Rattle.question_form.specs.FrameViews.{action_of, aim_of, edge_of, exits_of, list_of, row_exits, frame_unrolled_of}
+use Rattle.program_points.specs.Tables.{stack_at}
+use Rattle.question_form.specs.FrameViews.{action_of, aim_of, anchor_at, edge_of, exits_of, judged_at, list_of, own_contract, row_exits, stepped_at, frame_unrolled_of}
 use Rattle.term_names.specs.declared.names.Names.{Names}
 use Rattle.passify.specs.Sweeps.{bits_of, terms_of}
-use Rattle.passify.specs.Situations.{said}
-use Rattle.passify.specs.Edges.{aim_gates, aim_loads, aim_joins, aim_nodes, ensured}
+use Rattle.passify.specs.declared.spans.Span.{Span}
+use Rattle.passify.specs.Spans.{bytes_of, is_own}
+use Rattle.passify.specs.Situations.{checks_of, said}
+use Rattle.passify.specs.Edges.{aim_gates, aim_loads, aim_joins, aim_nodes, lines_out}
+use Rattle.passify.proofs.Tried.{price_room}
 use Rattle.passify.specs.Handled.{point_gates, point_loaded, point_joins, point_nodes}
-use Rattle.passify.specs.Rows.{own_code, own_checks, own_edges, own_lines, own_point, framed}
+use Rattle.passify.specs.Rows.{index_for, is_of_head, own_code, own_checks, own_edges, own_lines, own_point, framed}
 
 -- the edges among exits that lead out
 abbrev outs : List PointExit → ℕ
@@ -93,14 +99,17 @@ module _ (checks : List Check) (xs : List PointExit) where
       ∙ ap (λ (l : List Expr). sum_by g l + sum_by g (flat_map line_of xs)) (checks_lines checks)
 
   -- the sum of what the lines cost
-  lines_sum : (g : Expr → ℕ) (ends : List Expr) →
-      sum_by g (flat_map line_of (map FalseCheck checks ++ xs) ++ (if list_any goes_out (map FalseCheck checks ++ xs) then ends else []))
-      ≡ sum_by g (said checks) + sum_by g (flat_map line_of xs) + (if list_any goes_out xs then sum_by g ends else 0)
-  lines_sum g ends =
-      sum_by-append g (flat_map line_of (map FalseCheck checks ++ xs)) (if list_any goes_out (map FalseCheck checks ++ xs) then ends else [])
-      ∙ ap (λ (n : ℕ). n + sum_by g (if list_any goes_out (map FalseCheck checks ++ xs) then ends else [])) (all_lines g)
-      ∙ ap (λ (b : Bool). sum_by g (said checks) + sum_by g (flat_map line_of xs) + sum_by g (if b then ends else [])) all_stay
-      ∙ ap (λ (n : ℕ). sum_by g (said checks) + sum_by g (flat_map line_of xs) + n) (sum_cases g (list_any goes_out xs) ends)
+  lines_sum : (g : Expr → ℕ) (acts ends : List Expr) →
+      sum_by g (flat_map line_of (map FalseCheck checks ++ xs) ++ acts ++ (if list_any goes_out (map FalseCheck checks ++ xs) then ends else []))
+      ≡ sum_by g (said checks) + sum_by g (flat_map line_of xs) + sum_by g acts + (if list_any goes_out xs then sum_by g ends else 0)
+  lines_sum g acts ends =
+      let all = map FalseCheck checks ++ xs in
+      let last : List Expr = if list_any goes_out all then ends else [] in
+      let a = sum_by-append g (flat_map line_of all ++ acts) last in
+      let b = sum_by-append g (flat_map line_of all) acts in
+      let c = all_lines g in
+      let d = ap (λ (q : Bool). sum_by g (if q then ends else [])) all_stay ∙ sum_cases g (list_any goes_out xs) ends in
+      omega (arith, a, b, c, d)
 
 -- what edges cost, of which at most one leads out
 module _ (u : Unrolled) (f own : Edge → ℕ) (each out : ℕ) (few : (e : Edge) → f e ≤ each + own e + (if goes_out (edge_of u e) then out else 0)) where
@@ -147,6 +156,11 @@ pub record AreSized (v : ℕ) (n : Names) : Type 0 where
   pub bits : bits_of n ≤ 996
   pub terms : terms_of n ≡ v
   pub enough : 16 ≤ v
+  pub few : v ≤ 36
+
+own_few : (o : Option Contract) (n : ℕ) → is_own o * n ≤ n
+own_few None n = omega arith
+own_few (Some x) n = omega arith
 
 module _ (u : Unrolled) (v : ℕ) (n : Names) (sized : AreSized v n) where
   -- what the lines cost where an edge leads to a head
@@ -157,14 +171,15 @@ module _ (u : Unrolled) (v : ℕ) (n : Names) (sized : AreSized v n) where
   goes_to f j t a = record { falls = f; jumps = j; to = t; aim = a }
 
   gates_by : (f j : Bool) (t : Option ℕ) (a : Aim) →
-      35 + aim_gates u n a ≤ 1280 + into line_price (goes_to f j t a) + (if goes_out (edge_of u (goes_to f j t a)) then sum_by line_price (ensured u) else 0)
+      35 + aim_gates u n a ≤ 1280 + into line_price (goes_to f j t a) + (if goes_out (edge_of u (goes_to f j t a)) then sum_by line_price (lines_out u) else 0)
   gates_by f j t (OnTo k) = let b = sized.bits in omega (arith, b)
-  gates_by f j t Outward = omega arith
+  gates_by f j t Outward =
+      let b = sized.bits in let t = sized.terms in let m = sized.few in let o = own_few (own_contract u) (bits_of n + terms_of n + 1) in omega (arith, b, t, m, o)
   gates_by f j t (IntoHead at asserts) = omega arith
   gates_by f j t OverLast = omega arith
 
   loads_by : (f j : Bool) (t : Option ℕ) (a : Aim) →
-      aim_loads u a ≤ 0 + into bytes_loaded (goes_to f j t a) + (if goes_out (edge_of u (goes_to f j t a)) then sum_by bytes_loaded (ensured u) else 0)
+      aim_loads u a ≤ 0 + into bytes_loaded (goes_to f j t a) + (if goes_out (edge_of u (goes_to f j t a)) then sum_by bytes_loaded (lines_out u) else 0)
   loads_by f j t (OnTo k) = omega arith
   loads_by f j t Outward = omega arith
   loads_by f j t (IntoHead at asserts) = omega arith
@@ -178,9 +193,9 @@ module _ (u : Unrolled) (v : ℕ) (n : Names) (sized : AreSized v n) where
 
   nodes_by : (f j : Bool) (t : Option ℕ) (a : Aim) →
       14 + aim_nodes u n a
-      ≤ 4 * v + 4 * into (λ e. line_size e + 4) (goes_to f j t a) + (if goes_out (edge_of u (goes_to f j t a)) then 4 * line_steps (ensured u) else 0)
+      ≤ 4 * v + 4 * into (λ e. line_size e + 4) (goes_to f j t a) + (if goes_out (edge_of u (goes_to f j t a)) then 4 * line_steps (lines_out u) + 15 else 0)
   nodes_by f j t (OnTo k) = let b = sized.terms in let e = sized.enough in omega (arith, b, e)
-  nodes_by f j t Outward = let e = sized.enough in omega (arith, e)
+  nodes_by f j t Outward = let t = sized.terms in let o = own_few (own_contract u) (4 * terms_of n + 1) in omega (arith, t, o)
   nodes_by f j t (IntoHead at asserts) = let e = sized.enough in omega (arith, e)
   nodes_by f j t OverLast = let e = sized.enough in omega (arith, e)
 
@@ -195,17 +210,17 @@ module _ (u : Unrolled) (v : ℕ) (n : Names) (sized : AreSized v n) where
   module _ (es : List Edge) (one : outs (map (edge_of u) es) ≤ 1) where
     pub edge_gates : sum_by (λ e. 35 + aim_gates u n e.aim) es
         ≤ 1280 * length es + sum_by line_price (flat_map line_of (map (edge_of u) es))
-        + (if list_any goes_out (map (edge_of u) es) then sum_by line_price (ensured u) else 0)
+        + (if list_any goes_out (map (edge_of u) es) then sum_by line_price (lines_out u) else 0)
     edge_gates =
-        let s = some_out u (λ e. 35 + aim_gates u n e.aim) (into line_price) 1280 (sum_by line_price (ensured u))
+        let s = some_out u (λ e. 35 + aim_gates u n e.aim) (into line_price) 1280 (sum_by line_price (lines_out u))
         (λ e. gates_by e.falls e.jumps e.to e.aim) es one in
         let w = edges_sum u line_price es in omega (arith, s, w)
 
     pub edge_loads : sum_by (λ e. aim_loads u e.aim) es
         ≤ 0 * length es + sum_by bytes_loaded (flat_map line_of (map (edge_of u) es))
-        + (if list_any goes_out (map (edge_of u) es) then sum_by bytes_loaded (ensured u) else 0)
+        + (if list_any goes_out (map (edge_of u) es) then sum_by bytes_loaded (lines_out u) else 0)
     edge_loads =
-        let s = some_out u (λ e. aim_loads u e.aim) (into bytes_loaded) 0 (sum_by bytes_loaded (ensured u)) (λ e. loads_by e.falls e.jumps e.to e.aim) es one in
+        let s = some_out u (λ e. aim_loads u e.aim) (into bytes_loaded) 0 (sum_by bytes_loaded (lines_out u)) (λ e. loads_by e.falls e.jumps e.to e.aim) es one in
         let w = edges_sum u bytes_loaded es in omega (arith, s, w)
 
     pub edge_joins : sum_by (λ e. aim_joins e.aim) es ≤ 1 * length es + (if list_any goes_out (map (edge_of u) es) then 0 else 0)
@@ -215,9 +230,9 @@ module _ (u : Unrolled) (v : ℕ) (n : Names) (sized : AreSized v n) where
 
     pub edge_nodes : sum_by (λ e. 14 + aim_nodes u n e.aim) es
         ≤ (4 * v) * length es + 4 * line_steps (flat_map line_of (map (edge_of u) es))
-        + (if list_any goes_out (map (edge_of u) es) then 4 * line_steps (ensured u) else 0)
+        + (if list_any goes_out (map (edge_of u) es) then 4 * line_steps (lines_out u) + 15 else 0)
     edge_nodes =
-        let s = some_out u (λ e. 14 + aim_nodes u n e.aim) (λ e. 4 * into (λ x. line_size x + 4) e) (4 * v) (4 * line_steps (ensured u))
+        let s = some_out u (λ e. 14 + aim_nodes u n e.aim) (λ e. 4 * into (λ x. line_size x + 4) e) (4 * v) (4 * line_steps (lines_out u) + 15)
         (λ e. nodes_by e.falls e.jumps e.to e.aim) es one in
         let f = four_sum (into (λ x. line_size x + 4)) es in
         let w = edges_sum u (λ x. line_size x + 4) es in omega (arith, s, f, w)
@@ -229,17 +244,17 @@ same_cases : (b : Bool) → ◌≡◌ {A = ℕ} (if b then 0 else 0) 0
 same_cases true = refl
 same_cases false = refl
 
-four_cases : (b : Bool) (n : ℕ) → (if b then 4 * n else 0) ≡ 4 * (if b then n else 0)
-four_cases true n = refl
-four_cases false n = refl
+four_cases : (b : Bool) (n : ℕ) → (if b then 4 * n + 15 else 0) ≤ 4 * (if b then n else 0) + 15
+four_cases true n = omega arith
+four_cases false n = omega arith
 
--- what is stored has bytes
-pub stored_few : (xs : List Stored) → ((t : Stored) → Contains xs t → 1 ≤ t.bytes) → length xs ≤ sum_by (λ t. t.bytes) xs
-stored_few [] h = omega arith
-stored_few (t ∷ xs) h =
-    let c = sum_by-cons (λ (z : Stored). z.bytes) t xs in
+-- spans have bytes
+pub spans_few : (xs : List Span) → ((t : Span) → Contains xs t → 1 ≤ t.bytes) → length xs ≤ bytes_of xs
+spans_few [] h = omega arith
+spans_few (t ∷ xs) h =
+    let c = sum_by-cons (λ (z : Span). z.bytes) t xs in
     let one = h t (0, omega arith, refl) in
-    let more = stored_few xs (λ z m. h z (suc m.0, (let l = m.1 in omega (arith, l)), m.2)) in
+    let more = spans_few xs (λ z m. h z (suc m.0, (let l = m.1 in omega (arith, l)), m.2)) in
     omega (arith, c, one, more)
 
 -- what is paid for at a place, beside its assert lines
@@ -250,28 +265,140 @@ pub record ArePaid (u : Unrolled) (place gates loads stores joins nodes : ℕ) :
   pub few_joins : joins ≤ point_joins (framed u place)
   pub few_nodes : nodes + 4 * line_steps (own_lines u place) + 3 ≤ point_nodes (frame_unrolled_of u) (framed u place)
 
+-- what the tests of what is written may cost, by how many bytes are counted
+module _ (n b st k w : ℕ) (few : n ≤ b) (counted : b ≤ st) where
+  runs : n * k ≤ st * k
+  runs = mul-le n k st k (omega (arith, few, counted)) (omega arith)
+
+  lines : w * b ≤ st * w
+  lines = let m = mul-le w b w st (omega arith) counted in let e : w * st ≡ st * w = omega arith in omega (arith, m, e)
+
+  -- where bytes are kept, or none is written
+  pub tests_kept : (o : Option Contract) → (1 ≤ is_own o → 1 ≤ st → 1 ≤ k) →
+      (98 * (n * k) + is_own o * (n + 162 * (w * b)) ≤ 512 * (st * w) + 128 * (st * k))
+      × (10 * (n * k) + is_own o * (2 * n + 12 * (w * b)) ≤ 16 * (st * w) + 16 * (st * k))
+  tests_kept None h = (let r = runs in omega (arith, r), let r = runs in omega (arith, r))
+  tests_kept (Some x) h = by st refl
+    where
+      by : (m : ℕ) → st ≡ m → (98 * (n * k) + 1 * (n + 162 * (w * b)) ≤ 512 * (st * w) + 128 * (st * k))
+          × (10 * (n * k) + 1 * (2 * n + 12 * (w * b)) ≤ 16 * (st * w) + 16 * (st * k))
+      by zero e =
+          let z : n ≡ 0 = omega (arith, few, counted, e) in let r = runs in let l = lines in
+          (omega (arith, r, l, z), omega (arith, r, l, z))
+      by (suc m) e =
+          let one = h (omega arith) (omega (arith, e)) in
+          let s = mul-le st 1 st k (omega arith) one in let r = runs in let l = lines in
+          (omega (arith, r, l, s, few, counted), omega (arith, r, l, s, few, counted))
+
+  -- or where each span has a line that pays
+  pub tests_lined : (o : Option Contract) →
+      (98 * (n * k) + is_own o * (n + 162 * (w * b)) ≤ n + 512 * (st * w) + 128 * (st * k))
+      × (10 * (n * k) + is_own o * (2 * n + 12 * (w * b)) ≤ 2 * n + 16 * (st * w) + 16 * (st * k))
+  tests_lined None = (let r = runs in omega (arith, r), let r = runs in omega (arith, r))
+  tests_lined (Some x) = (let r = runs in let l = lines in omega (arith, r, l), let r = runs in let l = lines in omega (arith, r, l))
+
+-- the exit by what may not be written costs nothing
+skip_lines : (o : Option Contract) (xs : List PointExit) → flat_map line_of (outside_exit o ++ xs) ≡ flat_map line_of xs
+skip_lines None xs = refl
+skip_lines (Some x) xs = refl
+
+skip_edges : (o : Option Contract) (xs : List PointExit) → sum_by is_edge (outside_exit o ++ xs) ≡ sum_by is_edge xs
+skip_edges None xs = refl
+skip_edges (Some x) xs = let h = sum_by-cons is_edge WritingOutside xs in omega (arith, h)
+
+skip_outs : (o : Option Contract) (xs : List PointExit) → outs (outside_exit o ++ xs) ≡ outs xs
+skip_outs None xs = refl
+skip_outs (Some x) xs = let h = sum_by-cons (λ z. bit (goes_out z)) WritingOutside xs in omega (arith, h)
+
+skip_out : (o : Option Contract) (xs : List PointExit) → list_any goes_out (outside_exit o ++ xs) ≡ list_any goes_out xs
+skip_out None xs = refl
+skip_out (Some x) xs = refl
+
+-- nor do those of what a contract needs cost more than their lines
+module _ (xs : List PointExit) where
+  abbrev needing : List NoteLine → List PointExit
+  needing lines = map (λ l. FalseNeed l.line l.says) lines ++ xs
+
+  need_lines : (g : Expr → ℕ) (lines : List NoteLine) → sum_by g (flat_map line_of (needing lines)) ≡ sum_by g (says_of lines) + sum_by g (flat_map line_of xs)
+  need_lines g [] = let e : sum_by g (flat_map line_of xs) ≡ 0 + sum_by g (flat_map line_of xs) = omega arith in e
+  need_lines g (l ∷ lines) =
+      let a = sum_by-cons g l.says (flat_map line_of (needing lines)) in
+      let b = sum_by-cons g l.says (says_of lines) in
+      let r = need_lines g lines in omega (arith, a, b, r)
+
+  need_edges : (lines : List NoteLine) → sum_by is_edge (needing lines) ≡ sum_by is_edge xs
+  need_edges [] = refl
+  need_edges (l ∷ lines) = let a = sum_by-cons is_edge (FalseNeed l.line l.says) (needing lines) in let r = need_edges lines in omega (arith, a, r)
+
+  need_outs : (lines : List NoteLine) → outs (needing lines) ≡ outs xs
+  need_outs [] = refl
+  need_outs (l ∷ lines) =
+      let a = sum_by-cons (λ z. bit (goes_out z)) (FalseNeed l.line l.says) (needing lines) in let r = need_outs lines in omega (arith, a, r)
+
+  need_out : (lines : List NoteLine) → list_any goes_out (needing lines) ≡ list_any goes_out xs
+  need_out [] = refl
+  need_out (l ∷ lines) = need_out lines
+
+-- exits are some lines that a contract needs, and edges
+pub record AreBehind (u : Unrolled) (xs : List PointExit) (needs : List Expr) (es : List Edge) : Type 0 where
+  edges : sum_by is_edge xs ≡ length es
+  leaves : outs xs ≡ outs (map (edge_of u) es)
+  out : list_any goes_out xs ≡ list_any goes_out (map (edge_of u) es)
+  lines : (g : Expr → ℕ) → sum_by g (flat_map line_of xs) ≡ sum_by g needs + sum_by g (flat_map line_of (map (edge_of u) es))
+
+row_behind : (u : Unrolled) (o : Option Contract) (es : List Edge) →
+    AreBehind u (Raising ∷ WritingKept ∷ (outside_exit o ++ Unaligned ∷ map (edge_of u) es)) [] es
+row_behind u o es =
+    let E = map (edge_of u) es in
+    let M = outside_exit o ++ Unaligned ∷ E in
+    record {
+      edges = (
+          let a = sum_by-cons is_edge Raising (WritingKept ∷ M) in let b = sum_by-cons is_edge WritingKept M in
+          let c = skip_edges o (Unaligned ∷ E) in let d = sum_by-cons is_edge Unaligned E in let e = edges_are u es in omega (arith, a, b, c, d, e));
+      leaves = (
+          let f = λ (z : PointExit). bit (goes_out z) in
+          let a = sum_by-cons f Raising (WritingKept ∷ M) in let b = sum_by-cons f WritingKept M in
+          let c = skip_outs o (Unaligned ∷ E) in let d = sum_by-cons f Unaligned E in omega (arith, a, b, c, d));
+      out = skip_out o (Unaligned ∷ E);
+      lines = λ g. (let c = ap (sum_by g) (skip_lines o (Unaligned ∷ E)) in omega (arith, c));
+    }
+
+contract_behind : (u : Unrolled) (o : Option Contract) (needs : List NoteLine) (es : List Edge) →
+    AreBehind u (map (λ l. FalseNeed l.line l.says) needs ++ WritingKept ∷ (outside_exit o ++ NotGiven ∷ map (edge_of u) es)) (says_of needs) es
+contract_behind u o needs es =
+    let E = map (edge_of u) es in
+    let M = outside_exit o ++ NotGiven ∷ E in
+    record {
+      edges = (
+          let a = need_edges (WritingKept ∷ M) needs in let b = sum_by-cons is_edge WritingKept M in
+          let c = skip_edges o (NotGiven ∷ E) in let d = sum_by-cons is_edge NotGiven E in let e = edges_are u es in omega (arith, a, b, c, d, e));
+      leaves = (
+          let f = λ (z : PointExit). bit (goes_out z) in
+          let a = need_outs (WritingKept ∷ M) needs in let b = sum_by-cons f WritingKept M in
+          let c = skip_outs o (NotGiven ∷ E) in let d = sum_by-cons f NotGiven E in omega (arith, a, b, c, d));
+      out = need_out (WritingKept ∷ M) needs ∙ skip_out o (NotGiven ∷ E);
+      lines = λ g. need_lines (WritingKept ∷ M) g needs ∙ ap (λ (l : List Expr). sum_by g (says_of needs) + sum_by g l) (skip_lines o (NotGiven ∷ E));
+    }
+
 module _ (u : Unrolled) (i : ℕ) where
   abbrev behind : List PointExit
   behind = exits_of u (own_point u i).deed (own_code u i) (own_edges u i)
 
-  -- no contract step is made
-  no_lines : (d : Deed) (o : Option (Vec Stmt)) → action_lines (action_of d o) ≡ []
-  no_lines deeds.Row None = refl
-  no_lines deeds.Row (Some list) = refl
-  no_lines deeds.Arrival o = refl
+  checks_for : (d : Deed) → judged_at u d (anchor_at u (own_point u i).root) (own_code u i)
+      ≡ map FalseCheck (checks_of u (is_of_head u i) (index_for d (slice_range u.asserts.items (own_code u i).asserts.0 (own_code u i).asserts.1)))
+  checks_for deeds.Row = refl
+  checks_for deeds.Arrival = refl
+  checks_for (deeds.Contract n) = refl
 
-  own_exits : (framed u i).exits ≡ map FalseCheck (own_checks u i) ++ behind
-  own_exits = refl
+  pub own_exits : (framed u i).exits ≡ map FalseCheck (own_checks u i) ++ behind
+  own_exits = ap (λ (l : List PointExit). l ++ behind) (checks_for (own_point u i).deed)
 
   own_sum : (g : Expr → ℕ) → sum_by g (lines_at (frame_unrolled_of u) (framed u i))
-      ≡ sum_by g (own_lines u i) + sum_by g (flat_map line_of behind) + (if list_any goes_out behind then sum_by g (ensured u) else 0)
+      ≡ sum_by g (own_lines u i) + sum_by g (flat_map line_of behind) + sum_by g (action_lines (framed u i).does)
+      + (if list_any goes_out behind then sum_by g (lines_out u) else 0)
   own_sum g =
-      ap (λ (l : List Expr). sum_by g (flat_map line_of (framed u i).exits ++ l ++ (if list_any goes_out (framed u i).exits then ensured u else [])))
-      (no_lines (own_point u i).deed (own_code u i).list)
-      ∙ ap (λ (l : List Expr). sum_by g (l ++ (if list_any goes_out (framed u i).exits then ensured u else []))) (append_nothing (flat_map line_of
-      (framed u i).exits))
-      ∙ ap (λ (xs : List PointExit). sum_by g (flat_map line_of xs ++ (if list_any goes_out xs then ensured u else []))) own_exits
-      ∙ lines_sum (own_checks u i) behind g (ensured u)
+      ap (λ (xs : List PointExit). sum_by g (flat_map line_of xs ++ action_lines (framed u i).does ++ (if list_any goes_out xs then lines_out u else []))) own_exits
+      ∙ lines_sum (own_checks u i) behind g (action_lines (framed u i).does) (lines_out u)
 
   -- where there is no row
   pub none_paid : 64 ≤ (framed u i).row → ArePaid u i 0 0 0 0 0
@@ -293,81 +420,185 @@ module _ (u : Unrolled) (i : ℕ) where
   pub arrival_nodes : 1 + 4 * line_steps (own_lines u i) ≤ point_nodes (frame_unrolled_of u) (framed u i)
   arrival_nodes = let s = own_sum (λ e. line_size e + 4) in omega (arith, s)
 
+  -- what a point with edges pays
+  module _ (needs : List Expr) (b : AreBehind u behind needs (own_edges u i)) (n : Names) (sized : AreSized (variables_of (frame_unrolled_of u)) n)
+      (one : outs (framed u i).exits ≤ 1) where
+    abbrev es : List Edge
+    es = own_edges u i
+
+    edge_count : sum_by is_edge (framed u i).exits ≡ length es
+    edge_count = ap (sum_by is_edge) own_exits ∙ all_edges (own_checks u i) behind ∙ b.edges
+
+    one_edge : outs (map (edge_of u) es) ≤ 1
+    one_edge = let e = ap outs own_exits ∙ all_outs (own_checks u i) behind ∙ b.leaves in omega (arith, e, one)
+
+    point_sum : (g : Expr → ℕ) → sum_by g (lines_at (frame_unrolled_of u) (framed u i))
+        ≡ sum_by g (own_lines u i) + (sum_by g needs + sum_by g (flat_map line_of (map (edge_of u) es))) + sum_by g (action_lines (framed u i).does)
+        + (if list_any goes_out (map (edge_of u) es) then sum_by g (lines_out u) else 0)
+    point_sum g =
+        own_sum g
+        ∙ ap (λ (z : ℕ). sum_by g (own_lines u i) + z + sum_by g (action_lines (framed u i).does) + (if list_any goes_out behind then sum_by g (lines_out u) else 0))
+        (b.lines g)
+        ∙ ap (λ (q : Bool). sum_by g (own_lines u i) + (sum_by g needs + sum_by g (flat_map line_of (map (edge_of u) es)))
+        + sum_by g (action_lines (framed u i).does) + (if q then sum_by g (lines_out u) else 0)) b.out
+
+    count_nodes : variables_of (frame_unrolled_of u) * sum_by is_edge (framed u i).exits ≡ variables_of (frame_unrolled_of u) * length es
+    count_nodes = ap (λ (z : ℕ). variables_of (frame_unrolled_of u) * z) edge_count
+
+    four_each : (4 * variables_of (frame_unrolled_of u)) * length es ≡ 4 * (variables_of (frame_unrolled_of u) * length es)
+    four_each = omega arith
+
+    -- gates, loads, stores, joins and nodes beside those of the edges
+    pub point_paid : (gates loads stores joins nodes : ℕ) →
+        gates + 1 ≤ (framed u i).row + sum_by line_price needs + sum_by line_price (action_lines (framed u i).does)
+        + 512 * ((framed u i).stores * own_writes (frame_unrolled_of u)) + 128 * ((framed u i).stores * length (frame_unrolled_of u).kept) →
+        loads ≤ (framed u i).loads + sum_by bytes_loaded needs + sum_by bytes_loaded (action_lines (framed u i).does) →
+        stores ≤ (framed u i).stores → joins ≤ 2 * (framed u i).stores →
+        nodes + 3 + 15 ≤ 4 * action_size (framed u i).does + 64 + 4 * line_steps needs + 4 * line_steps (action_lines (framed u i).does)
+        + 16 * ((framed u i).stores * length (frame_unrolled_of u).kept) + 16 * ((framed u i).stores * own_writes (frame_unrolled_of u)) →
+        ArePaid u i (gates + sum_by (λ e. 35 + aim_gates u n e.aim) es) (loads + sum_by (λ e. aim_loads u e.aim) es) stores
+        (joins + sum_by (λ e. aim_joins e.aim) es) (nodes + sum_by (λ e. 14 + aim_nodes u n e.aim) es)
+    point_paid gates loads stores joins nodes fg fl fs fj fn = record {
+      few_gates = (
+          let g = edge_gates u (variables_of (frame_unrolled_of u)) n sized es one_edge in
+          let s = point_sum line_price in let c = edge_count in omega (arith, g, s, c, fg));
+      few_loads = (
+          let g = edge_loads u (variables_of (frame_unrolled_of u)) n sized es one_edge in
+          let s = point_sum bytes_loaded in omega (arith, g, s, fl));
+      few_stores = fs;
+      few_joins = (
+          let g = edge_joins u (variables_of (frame_unrolled_of u)) n sized es one_edge in
+          let z = same_cases (list_any goes_out (map (edge_of u) es)) in let c = edge_count in omega (arith, g, z, c, fj));
+      few_nodes = (
+          let g = edge_nodes u (variables_of (frame_unrolled_of u)) n sized es one_edge in
+          let f = four_cases (list_any goes_out (map (edge_of u) es)) (line_steps (lines_out u)) in
+          let s = point_sum (λ e. line_size e + 4) in let c = count_nodes in let v = four_each in omega (arith, g, f, s, c, v, fn));
+    }
+
   module _ (row : (own_point u i).deed ≡ deeds.Row) (list : Vec Stmt) (code : (own_code u i).list ≡ Some list) where
-    behind_is : behind ≡ Raising ∷ WritingKept ∷ Unaligned ∷ map (edge_of u) (own_edges u i)
+    behind_is : behind ≡ Raising ∷ WritingKept ∷ (outside_exit (own_contract u) ++ Unaligned ∷ map (edge_of u) (own_edges u i))
     behind_is =
         ap (λ (d : Deed). exits_of u d (own_code u i) (own_edges u i)) row
         ∙ ap (λ (o : Option (Vec Stmt)). row_exits u (own_code u i).fetchable o (own_edges u i)) code
 
-    edge_count : sum_by is_edge (framed u i).exits ≡ length (own_edges u i)
-    edge_count =
-        all_edges (own_checks u i) behind ∙ ap (λ (xs : List PointExit). sum_by is_edge xs) behind_is
-        ∙ sum_by-append is_edge (Raising ∷ WritingKept ∷ Unaligned ∷ []) (map (edge_of u) (own_edges u i)) ∙ ap
-        (λ (z : ℕ). 0 + z) (edges_are u (own_edges u i)) ∙ zero_plus
-        (length (own_edges u i))
+    does_is : (framed u i).does ≡ Executes (statements list.items)
+    does_is =
+        ap (λ (d : Deed). action_of u d (own_code u i).list (stack_at u.frames.items (own_point u i).stack)) row
+        ∙ ap (λ (o : Option (Vec Stmt)). list_of o) code
 
-    edge_outs : outs (framed u i).exits ≡ outs (map (edge_of u) (own_edges u i))
-    edge_outs =
-        all_outs (own_checks u i) behind ∙ ap (λ (xs : List PointExit). outs xs) behind_is
-        ∙ sum_by-append (λ x. bit (goes_out x)) (Raising ∷ WritingKept ∷ Unaligned
-        ∷ []) (map (edge_of u) (own_edges u i)) ∙ zero_plus (outs (map (edge_of u) (own_edges u i)))
-
-    row_sum : (g : Expr → ℕ) → sum_by g (lines_at (frame_unrolled_of u) (framed u i))
-        ≡ sum_by g (own_lines u i) + sum_by g (flat_map line_of (map (edge_of u) (own_edges u i)))
-        + (if list_any goes_out (map (edge_of u) (own_edges u i)) then sum_by g (ensured u) else 0)
-    row_sum g =
-        own_sum g
-        ∙ ap (λ (xs : List PointExit). sum_by g (own_lines u i) + sum_by g (flat_map line_of xs) + (if list_any goes_out xs then sum_by g (ensured u) else 0))
-        behind_is
-
-    module _ (n : Names) (stored tests : ℕ) (sized : AreSized (variables_of (frame_unrolled_of u)) n) (one : outs (framed u i).exits ≤ 1) (few : stored
-        ≤ byte_stores (statements list.items))
-        (are : tests ≡ stored * length (frame_unrolled_of u).kept) (weight : list_weight (statements list.items) + 64 ≤ (framed u i).row)
+    module _ (n : Names) (spans : List Span) (own : ℕ) (sized : AreSized (variables_of (frame_unrolled_of u)) n) (one : outs (framed u i).exits ≤ 1)
+        (few : length spans ≤ bytes_of spans) (counted : bytes_of spans ≤ byte_stores (statements list.items))
+        (are : own ≡ own_writes (frame_unrolled_of u)) (kept : 1 ≤ is_own (own_contract u) → 1 ≤ (framed u i).stores → 1 ≤ length (frame_unrolled_of u).kept)
+        (weight : list_weight (statements list.items) + 64 ≤ (framed u i).row)
         (loads : byte_loads (statements list.items) ≤ (framed u i).loads)
         (stores : byte_stores (statements list.items) ≤ (framed u i).stores) where
-      one_edge : outs (map (edge_of u) (own_edges u i)) ≤ 1
-      one_edge = let e = edge_outs in omega (arith, e, one)
+      abbrev K : ℕ
+      K = length (frame_unrolled_of u).kept
 
-      tests_few : tests ≤ (framed u i).stores * length (frame_unrolled_of u).kept
-      tests_few =
-          let m = mul-le stored (length (frame_unrolled_of u).kept) (framed u i).stores (length (frame_unrolled_of u).kept) (omega (arith, few, stores))
-          (omega arith) in
-          omega (arith, m, are)
+      tests : (98 * (length spans * K) + is_own (own_contract u) * (length spans + 162 * (own * bytes_of spans))
+          ≤ 512 * ((framed u i).stores * own) + 128 * ((framed u i).stores * K))
+          × (10 * (length spans * K) + is_own (own_contract u) * (2 * length spans + 12 * (own * bytes_of spans))
+          ≤ 16 * ((framed u i).stores * own) + 16 * ((framed u i).stores * K))
+      tests = tests_kept (length spans) (bytes_of spans) (framed u i).stores K own few (omega (arith, counted, stores)) (own_contract u) kept
 
-      count_nodes : variables_of (frame_unrolled_of u) * sum_by is_edge (framed u i).exits ≡ variables_of (frame_unrolled_of u) * length (own_edges u i)
-      count_nodes = ap (λ (z : ℕ). variables_of (frame_unrolled_of u) * z) edge_count
+      own_is : (framed u i).stores * own ≡ (framed u i).stores * own_writes (frame_unrolled_of u)
+      own_is = ap (λ z. (framed u i).stores * z) are
 
-      four_each : (4 * variables_of (frame_unrolled_of u)) * length (own_edges u i) ≡ 4 * (variables_of (frame_unrolled_of u) * length (own_edges u i))
-      four_each = omega arith
+      no_acts : (g : Expr → ℕ) → sum_by g (action_lines (framed u i).does) ≡ 0
+      no_acts g = ap (λ (a : Action). sum_by g (action_lines a)) does_is
 
-      sizes : action_size (framed u i).does ≡ list_size (statements list.items)
-      sizes = ap (λ (d : Deed). action_size (action_of d (own_code u i).list)) row ∙ ap (λ (o : Option (Vec Stmt)). action_size (list_of o)) code
+      size_is : action_size (framed u i).does ≡ list_size (statements list.items)
+      size_is = ap action_size does_is
 
-      pub row_paid : ArePaid u i (list_weight (statements list.items) + 98 * tests + (32 + 2) + (9 + sum_by
+      pub row_paid : ArePaid u i (list_weight (statements list.items)
+          + (98 * (length spans * K) + is_own (own_contract u) * (length spans + 162 * (own * bytes_of spans))) + (32 + 2) + (9 + sum_by
           (λ e. 35 + aim_gates u n e.aim) (own_edges u i)))
           (byte_loads (statements list.items) + 0 + (0 + 0) + sum_by (λ e. aim_loads u e.aim) (own_edges u i))
           (byte_stores (statements list.items) + 0 + (0 + 0) + 0)
           (2 * byte_stores (statements list.items) + 0 + (0 + 0) + sum_by (λ e. aim_joins e.aim) (own_edges u i))
-          (4 * list_size (statements list.items) + 8 + (1 + 10 * tests) + (3 + 5) + (24 + sum_by
+          (4 * list_size (statements list.items) + 8
+          + (1 + 10 * (length spans * K) + is_own (own_contract u) * (2 * length spans + 12 * (own * bytes_of spans))) + (3 + 5) + (24 + sum_by
           (λ e. 14 + aim_nodes u n e.aim) (own_edges u i)))
-      row_paid = record {
-        few_gates = (
-            let g = edge_gates u (variables_of (frame_unrolled_of u)) n sized (own_edges u i) one_edge in
-            let s = row_sum line_price in let c = edge_count in let t = tests_few in omega (arith, g, s, c, t, weight)
-            );
-        few_loads = (
-            let g = edge_loads u (variables_of (frame_unrolled_of u)) n sized (own_edges u i) one_edge in
-            let s = row_sum bytes_loaded in omega (arith, g, s, loads)
-            );
-        few_stores = omega (arith, stores);
-        few_joins = (
-            let g = edge_joins u (variables_of (frame_unrolled_of u)) n sized (own_edges u i) one_edge in
-            let z = same_cases (list_any goes_out (map (edge_of u) (own_edges u i))) in let c = edge_count in omega (arith, g, z, c, stores)
-            );
-        few_nodes = (
-            let g = edge_nodes u (variables_of (frame_unrolled_of u)) n sized (own_edges u i) one_edge in
-            let f = four_cases (list_any goes_out (map (edge_of u) (own_edges u i))) (line_steps (ensured u)) in
-            let s = row_sum (λ e. line_size e + 4) in let c = count_nodes in let t = tests_few in let v = four_each in let z = sizes
-            in omega (arith, g, f, s, c, t, v, z)
-            );
-      }
+      row_paid =
+          let L = list_weight (statements list.items) in let B = byte_stores (statements list.items) in let S = list_size (statements list.items) in
+          let T = 98 * (length spans * K) + is_own (own_contract u) * (length spans + 162 * (own * bytes_of spans)) in
+          let N = 10 * (length spans * K) + is_own (own_contract u) * (2 * length spans + 12 * (own * bytes_of spans)) in
+          let t = tests in let tg = t.0 in let tn = t.1 in let o = own_is in
+          let a = no_acts (λ e. line_size e + 4) in let z = size_is in
+          let p = point_paid [] (subst (λ (xs : List PointExit). AreBehind u xs [] (own_edges u i)) (sym behind_is)
+          (row_behind u (own_contract u) (own_edges u i))) n sized one (L + T + (32 + 2) + 9) (byte_loads (statements list.items)) B (2 * B)
+          (4 * S + 8 + (1 + N) + (3 + 5) + 24)
+          (omega (arith, weight, tg, o)) (omega (arith, loads)) stores (omega (arith, stores)) (omega (arith, tn, o, a, z)) in
+          let pg = p.few_gates in let pl = p.few_loads in let ps = p.few_stores in let pj = p.few_joins in let pn = p.few_nodes in
+          record {
+            few_gates = omega (arith, pg);
+            few_loads = omega (arith, pl);
+            few_stores = omega (arith, ps);
+            few_joins = omega (arith, pj);
+            few_nodes = omega (arith, pn);
+          }
+
+  module _ (number : ℕ) (deed : (own_point u i).deed ≡ deeds.Contract number) (n : Names) (spans : List Span) (own : ℕ)
+      (sized : AreSized (variables_of (frame_unrolled_of u)) n) (one : outs (framed u i).exits ≤ 1)
+      (few : length spans ≤ bytes_of spans) (are : own ≡ own_writes (frame_unrolled_of u))
+      (count : length spans ≡ length (stepped_at u number).writes) (bytes : bytes_of spans ≤ (framed u i).stores) (row : 64 ≤ (framed u i).row) where
+    abbrev k : Contract
+    k = stepped_at u number
+
+    abbrev runs_of : ℕ
+    runs_of = length (frame_unrolled_of u).kept
+
+    gift_behind : AreBehind u behind (says_of k.needs) (own_edges u i)
+    gift_behind = subst (λ (d : Deed). AreBehind u (exits_of u d (own_code u i) (own_edges u i)) (says_of k.needs) (own_edges u i)) (sym deed)
+        (contract_behind u (own_contract u) k.needs (own_edges u i))
+
+    gift_acts : (g : Expr → ℕ) → sum_by g (action_lines (framed u i).does) ≡ sum_by g (says_of k.gives) + sum_by g (map (λ w. w.says) k.writes)
+    gift_acts g =
+        ap (λ (d : Deed). sum_by g (action_lines (action_of u d (own_code u i).list (stack_at u.frames.items (own_point u i).stack)))) deed
+        ∙ sum_by-append g (says_of k.gives) (map (λ w. w.says) k.writes)
+
+    writes_gates : (ws : List Writes) → sum_by (λ w. line_price w.says - 64) ws + 64 * length ws ≤ sum_by line_price (map (λ w. w.says) ws)
+    writes_gates [] = omega arith
+    writes_gates (w ∷ ws) =
+        let a = sum_by-cons (λ (v : Writes). line_price v.says - 64) w ws in
+        let b = sum_by-cons line_price w.says (map (λ (v : Writes). v.says) ws) in
+        let p = price_room w.says in let r = writes_gates ws in omega (arith, a, b, p, r)
+
+    writes_loads : (ws : List Writes) → sum_by (λ w. bytes_loaded w.says) ws ≡ sum_by bytes_loaded (map (λ w. w.says) ws)
+    writes_loads [] = refl
+    writes_loads (w ∷ ws) =
+        let a = sum_by-cons (λ (v : Writes). bytes_loaded v.says) w ws in
+        let b = sum_by-cons bytes_loaded w.says (map (λ (v : Writes). v.says) ws) in let r = writes_loads ws in omega (arith, a, b, r)
+
+    writes_nodes : (ws : List Writes) → sum_by (λ w. 4 * line_size w.says + 8) ws + 8 * length ws ≡ 4 * line_steps (map (λ w. w.says) ws)
+    writes_nodes [] = refl
+    writes_nodes (w ∷ ws) =
+        let a = sum_by-cons (λ (v : Writes). 4 * line_size v.says + 8) w ws in
+        let b = sum_by-cons (λ (e : Expr). line_size e + 4) w.says (map (λ (v : Writes). v.says) ws) in let r = writes_nodes ws in omega (arith, a, b, r)
+
+    abbrev tests_gates : ℕ
+    tests_gates = 98 * (length spans * runs_of) + is_own (own_contract u) * (length spans + 162 * (own * bytes_of spans))
+
+    abbrev tests_nodes : ℕ
+    tests_nodes = 10 * (length spans * runs_of) + is_own (own_contract u) * (2 * length spans + 12 * (own * bytes_of spans))
+
+    pub gift_paid : ArePaid u i
+        (sum_by line_price (says_of k.needs) + sum_by (λ w. line_price w.says - 64) k.writes + tests_gates + 3 + sum_by line_price (says_of k.gives)
+        + sum_by (λ e. 35 + aim_gates u n e.aim) (own_edges u i))
+        (sum_by bytes_loaded (says_of k.needs) + sum_by (λ w. bytes_loaded w.says) k.writes + sum_by bytes_loaded (says_of k.gives)
+        + sum_by (λ e. aim_loads u e.aim) (own_edges u i))
+        (bytes_of spans) (0 + sum_by (λ e. aim_joins e.aim) (own_edges u i))
+        (4 * line_steps (says_of k.needs) + 1 + sum_by (λ w. 4 * line_size w.says + 8) k.writes + (1 + tests_nodes) + 8 + (35 + 2 * length spans) + 1
+        + 4 * line_steps (says_of k.gives) + sum_by (λ e. 14 + aim_nodes u n e.aim) (own_edges u i))
+    gift_paid =
+        let t = tests_lined (length spans) (bytes_of spans) (framed u i).stores runs_of own few bytes (own_contract u) in
+        let tg = t.0 in let tn = t.1 in
+        let o = ap (λ z. (framed u i).stores * z) are in
+        let ag = gift_acts line_price in let al = gift_acts bytes_loaded in let an = gift_acts (λ e. line_size e + 4) in
+        let wg = writes_gates k.writes in let wl = writes_loads k.writes in let wn = writes_nodes k.writes in
+        point_paid (says_of k.needs) gift_behind n sized one
+        (sum_by line_price (says_of k.needs) + sum_by (λ w. line_price w.says - 64) k.writes + tests_gates + 3 + sum_by line_price (says_of k.gives))
+        (sum_by bytes_loaded (says_of k.needs) + sum_by (λ w. bytes_loaded w.says) k.writes + sum_by bytes_loaded (says_of k.gives)) (bytes_of spans) 0
+        (4 * line_steps (says_of k.needs) + 1 + sum_by (λ w. 4 * line_size w.says + 8) k.writes + (1 + tests_nodes) + 8 + (35 + 2 * length spans) + 1
+        + 4 * line_steps (says_of k.gives))
+        (omega (arith, tg, o, ag, wg, count, row)) (omega (arith, al, wl)) bytes (omega arith) (omega (arith, tn, o, an, wn, count))

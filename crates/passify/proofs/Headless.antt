@@ -1,5 +1,5 @@
 -- The passive program of a program's frame is the program's.
-use Rattle.std.proofs.Common.{◌≡◌, ℕ, zero, suc, Bool, true, false, List, [], ◌∷◌, Option, Some, None, refl, ap, sym, ◌∙◌, subst, arith, Contains}
+use Rattle.std.proofs.Common.{◌≡◌, ℕ, zero, suc, Bool, false, List, [], ◌∷◌, Option, Some, None, refl, ap, sym, ◌∙◌, subst, arith, Contains}
 use Rattle.std.proofs.Math.Path.{fun_ext}
 use Rattle.bilv_spec.specs.Questions as questions
 use Rattle.term_spec.specs.Terms.{TermReading, TermNode}
@@ -11,8 +11,8 @@ use Rattle.walk_spec.specs.Unrolling as unrolling
 use Rattle.frame_spec.specs.Frames.{Content, content_of}
 use Rattle.frame_spec.specs.FramePoints.{triple}
 use Rattle.frame_spec.specs.FrameQuestions.{Reading, IsReading}
-use Rattle.frame_spec.specs.FrameWalk.{UnrolledProgram, Held, held, point_at, swept}
-use Rattle.frame_laws.specs.HeadlessLaws.{as_unrolled}
+use Rattle.frame_spec.specs.FrameWalk.{UnrolledProgram, UnrolledPoint, Gift, StepsOver, Held, held, point_at, swept}
+use Rattle.frame_laws.specs.HeadlessLaws.{as_action, as_unrolled}
 use Rattle.frame_laws.proofs.HeadlessWalks.{headless_sweeps, held_same, place_same}
 use Rattle.frame_terms.specs.PassiveFrames.{IsPassive, IsWalkable, inputs_of, part_content, part_reading}
 use Rattle.frame_terms.proofs.HeadlessNodes.{headless_passive}
@@ -20,6 +20,8 @@ use Rattle.frame_terms.proofs.HeadlessWalkable.{headless_is_walkable}
 use Rattle.term_names.specs.declared.names.Names.{Names}
 use Rattle.term_names.specs.Views.{names_of}
 use Rattle.question_form.specs.declared.questions.Passive.{Passive}
+use Rattle.question_form.specs.Forms.{AreStepsFormed}
+use Rattle.question_form.specs.declared.unrolled.Deed.TheVariants as deeds
 use Rattle.question_form.specs.declared.unrolled.Root as declared
 use Rattle.question_form.specs.declared.unrolled.Unrolled.{Unrolled}
 use Rattle.question_form.specs.Views.{unrolled_of}
@@ -28,6 +30,7 @@ use Rattle.question_form.specs.FrameQuestions.{frame_passive_of}
 use Rattle.question_form.specs.FrameViews.{IsHeadless, frame_unrolled_of, no_root}
 use Rattle.question_form.proofs.FrameValues.{headless_values}
 use Rattle.passify.specs.Lasts.{AreCarriedIn, AreCarriedTo}
+use Rattle.passify.specs.Likes.{HasNoSteps}
 use Rattle.passify.specs.Made.{IsPassiveIn, IsPassiveOf}
 use Rattle.passify.specs.Plain.{carried}
 use Rattle.passify.specs.Planted.{AreHeaded}
@@ -90,6 +93,13 @@ module _ (v : tables.UnrolledProgram) where
         base = λ p j. 0;
       }) (same_choices r)
 
+  -- a program makes no contract step
+  no_step : (a : tables.Action) (x : Gift) → as_action a ≡ StepsOver x → ⊥
+  no_step (tables.Executes list) x e = cc
+
+  no_steps : HasNoSteps f
+  no_steps i x l e = no_step (tables.point_at v i).does x (ap (λ (q : UnrolledPoint). q.does) (sym (place_same v i)) ∙ e)
+
   -- what is carried to a place of the frame is what is carried to that of the program
   carried_back : (t : ℕ) (nodes : List TermNode) (o : Option Names) → AreCarriedIn f t nodes o → AreCarriedTo v t nodes o
   carried_back t nodes None k = λ r is pc. sym (ap (λ (h : Held). h.met t) (held_same v (lift r) t)) ∙ k (lift r) (lift_is r is) pc
@@ -104,7 +114,8 @@ module _ (v : tables.UnrolledProgram) where
     };
     denotes = λ r is pc met.
         let same = held_same v (lift r) t in
-        let d = k.denotes (lift r) (lift_is r is) pc (ap (λ (h : Held). h.met t) same ∙ met) in
+        let q = k.denotes (lift r) (lift_is r is) pc (ap (λ (h : Held). h.met t) same ∙ met) in
+        let d = subst (λ (c : Content). Denotes (inputs_of f) nodes (part_reading f (lift r)) (names_of n) (carried c)) (q.2 no_steps) q.3 in
         let e = subst (λ (x : TermReading). Denotes (inputs_of f) nodes x (names_of n) (carried ((held f (lift r) t).carried t))) (reading_same r) d in
         let g = subst (λ (h : Held). Denotes (inputs_of f) nodes (term_reading v r) (names_of n) (carried (h.carried t))) same e in
         record { registers = g.registers; flags = g.flags; memory = g.memory };
@@ -122,6 +133,12 @@ module _ (v : tables.UnrolledProgram) where
 module _ (u : Unrolled) (h : IsHeadless u) where
   pub frame_walkable : unrolling.IsWalkable (unrolled_of u) → IsWalkable (frame_unrolled_of u)
   frame_walkable w = subst IsWalkable (sym (headless_values u h)) ((headless_is_walkable (unrolled_of u)).0 w)
+
+  pub steps_of : AreStepsFormed u
+  steps_of = record { contracts = λ q n c e. absurd (no_contract n (sym (h.deeds q c) ∙ e)) }
+    where
+      no_contract : (n : ℕ) → deeds.Row ≡ deeds.Contract n → ⊥
+      no_contract n e = cc
 
   pub is_headed : AreHeaded u
   is_headed e x c =

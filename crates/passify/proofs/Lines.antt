@@ -1,22 +1,28 @@
 -- Lines that are tried one by one.
-use Rattle.std.proofs.Common.{◌≡◌, ℕ, zero, suc, ◌+◌, ◌*◌, ◌<◌, ◌≤◌, Bool, true, false, List, [], ◌∷◌, length, refl, ap, sym, ◌∙◌, subst, arith, drop, get_or}
+use Rattle.std.proofs.Common.{◌≡◌, ℕ, zero, suc, ◌+◌, ◌*◌, ◌<◌, ◌≤◌, Bool, true, false, List, [], ◌∷◌, ◌++◌, Contains, take, length, refl, ap, sym, ◌∙◌, subst, arith, drop, get_or}
 use Rattle.std.specs.Prelude.{not, if◌then◌else◌, map, Option, Some}
+use Rattle.std.proofs.lemmas.List.{get_or-map, length-map, map-append, take_more}
 use Rattle.std.proofs.lemmas.List.Sums.{sum_by-cons}
 use Rattle.word_spec.specs.Memory.{endian, Endian}
 use Rattle.word_spec.specs.State.{State}
 use Rattle.bilv_spec.specs.Notes.{Expr, value, is_true, NoteLine}
-use Rattle.machine_spec.specs.Endings.{EnsureFails, JumpFails}
+use Rattle.machine_spec.specs.Endings.{JumpFails}
 use Rattle.bilv_spec.specs.Run.{false_line}
 use Rattle.bilv_spec.specs.Points.{line_price, bytes_loaded}
 use Rattle.term_spec.specs.Terms.{TermReading, TermNode, HasWidth}
 use Rattle.walk_spec.specs.Unrolled.{WalkFails, state_at, carried_of}
 use Rattle.walk_spec.specs.Sweep.{Held, held_if, hand}
 use Rattle.walk_spec.specs.Prices.{line_size}
-use Rattle.frame_spec.specs.Frames.{FrameEvent, OfStep, content_at, content_of}
+use Rattle.frame_spec.specs.Frames.{FrameEvent, GivesFails, content_at, content_of}
 use Rattle.frame_spec.specs.FrameWalk.{Check, UnrolledProgram, Aim, ToEvent, PointExit, check_event, false_check, walk_to, out_by}
 use Rattle.term_dag.proofs.Growth.{grew_on, grew_none, grew_width, inputs_on, inputs_none}
 use Rattle.term_names.specs.declared.names.Names.{Names}
+use Rattle.term_names.specs.Views.{AreFor}
 use Rattle.term_names.specs.Chosen.{at_entry}
+use Rattle.frame_terms.specs.PassiveFrames.{inputs_of}
+use Rattle.question_form.specs.declared.unrolled.Unrolled.{Unrolled}
+use Rattle.question_form.specs.FrameViews.{frame_unrolled_of}
+use Rattle.passify.specs.Handled.{IsSweepOf}
 use Rattle.note_terms.specs.declared.Now.{Now}
 use Rattle.note_terms.specs.Lines.{IsStateOf}
 use Rattle.passify.specs.declared.sweep.Sweep.{Sweep}
@@ -30,7 +36,18 @@ use Rattle.notes_value.specs.NoteViews.{note_line_of}
 use Rattle.passify.proofs.Kept.{word_keeps, denotes_keep, terms_keep}
 
 pub like_on : (a b c : Sweep) → AreLike a b → AreLike b c → AreLike a c
-like_on a b c p q = record { entry = q.entry ∙ p.entry; pc = q.pc ∙ p.pc; at = q.at ∙ p.at; places = q.places ∙ p.places; steps = q.steps ∙ p.steps }
+like_on a b c p q = record {
+  entry = q.entry ∙ p.entry;
+  pc = q.pc ∙ p.pc;
+  at = q.at ∙ p.at;
+  places = q.places ∙ p.places;
+  steps = q.steps ∙ p.steps;
+  own = q.own ∙ p.own;
+}
+
+-- what is kept of a frame stays so
+pub like_sweep : (u : Unrolled) (s z : Sweep) → AreLike s z → IsSweepOf u s → IsSweepOf u z
+like_sweep u s z l k = record { form = subst (AreFor (inputs_of (frame_unrolled_of u))) (sym l.entry) k.form; at = l.at ∙ k.at; places = l.places ∙ k.places }
 
 pub steps_on : (a b c : List TermNode) (s t u : Sweep) (more : TermNode → Type 0) (g l st j n g' l' st' j' n' : ℕ) → Steps a b s t g l st j n more →
     Steps b c t u g' l' st' j' n' more →
@@ -51,14 +68,14 @@ lines_none ns s all w = record {
     grew = grew_none ns;
     inputs = inputs_none ns (λ m. ⊥);
     well = w;
-    like = record { entry = refl; pc = refl; at = refl; places = refl; steps = refl };
+    like = record { entry = refl; pc = refl; at = refl; places = refl; steps = refl; own = refl };
   };
   few_gates = omega arith;
   few_loads = omega arith;
   few_nodes = omega arith;
 }
 
-lines_more : (a b c : List TermNode) (s t u : Sweep) (all others : List Expr) (e : Expr) → AreLines a b s t all (e ∷ others) →
+pub lines_more : (a b c : List TermNode) (s t u : Sweep) (all others : List Expr) (e : Expr) → AreLines a b s t all (e ∷ others) →
     Steps b c t u (line_price e) (bytes_loaded e) 0 0 (4 * (line_size e + 4)) (λ m. ⊥) → AreLines a c s u all others
 lines_more a b c s t u all others e p q = record {
   gates = p.gates + line_price e;
@@ -147,18 +164,19 @@ at_head at = record {
       (false_check S.program.endian rest (content_at (content_of S.next) at) S.entry) h;
 }
 
-out_event : (u : UnrolledProgram) (entry : State) (q : Bool) (line : ℕ) (o : Option ℕ) (h : Held) →
-    hand (plain u entry (out_by (if q then o else Some line) (λ n. OfStep (EnsureFails n)) false)) h
-    ≡ held_if (not q) (hand (WalkFails JumpFails) h) (hand (plain u entry (out_by o (λ n. OfStep (EnsureFails n)) false)) h)
-out_event u entry true line o h = refl
-out_event u entry false line o h = refl
+out_event : (u : UnrolledProgram) (entry : State) (q c : Bool) (line : ℕ) (o : Option ℕ) (h : Held) →
+    hand (plain u entry (out_by (if q then o else Some line) GivesFails c)) h
+    ≡ held_if (not q) (hand (WalkFails JumpFails) h) (hand (plain u entry (out_by o GivesFails c)) h)
+out_event u entry true c line o h = refl
+out_event u entry false c line o h = refl
 
 -- an ensure line before others
-pub ensure_by : (l : NoteLine) (lines : List NoteLine) (S : Situation) (tail : List PointExit) (h : Held) →
-    goes_out_by (l ∷ lines) S tail h ≡ held_if (not (is_true (value S.program.endian l.says S.next S.entry))) (hand (WalkFails JumpFails) h)
-    (goes_out_by lines S tail h)
-ensure_by l lines S tail h =
-    out_event S.program S.entry (is_true (value S.program.endian l.says S.next S.entry)) l.line (false_line S.program.endian lines S.next S.entry) h
+pub ensure_by : (changed : Situation → Bool) (l : NoteLine) (lines : List NoteLine) (S : Situation) (tail : List PointExit) (h : Held) →
+    goes_out_by changed (l ∷ lines) S tail h ≡ held_if (not (is_true (value S.program.endian l.says S.next S.entry))) (hand (WalkFails JumpFails) h)
+    (goes_out_by changed lines S tail h)
+ensure_by changed l lines S tail h =
+    out_event S.program S.entry (is_true (value S.program.endian l.says S.next S.entry)) (changed S) l.line
+    (false_line S.program.endian lines S.next S.entry) h
 
 pub at_map : {X Y : Type 0} → (f : X → Y) (xs : List X) (i : ℕ) (x : X) (d : Y) → i < length xs → x ≡ get_or xs i x → get_or (map f xs) i d ≡ f x
 at_map f [] i x d l e = absurd (omega arith)
@@ -189,24 +207,24 @@ module _ (old cur : List TermNode) (s z : Sweep) (rest left : ℕ) (big : Bool) 
   tried_pc h = grew_width old cur _ _ _ _ _ 32 n.pc.0 k.lines.steps.grew h
 
 -- one ensure line more
-pub judged_on : (old cur new : List TermNode) (s z y : Sweep) (rest left last : ℕ) (big : Bool) (n : Now) (lines : List SourceLine) (i : ℕ) (l : SourceLine) →
+pub judged_on : (changed : Situation → Bool) (old cur new : List TermNode) (s z y : Sweep) (rest left last : ℕ) (big : Bool) (n : Now) (lines : List SourceLine) (i : ℕ) (l : SourceLine) →
     i < length lines → l ≡ get_or lines i l → AreWell old s →
     AreTermsOf s.entry old n.names.now → HasWidth old 32 n.pc.0 →
     LinesTried old cur s z rest left big n (λ S. S.next) (map (λ k. k.says) (map note_line_of lines)) (map
-    (λ k. k.says) (map note_line_of (drop i lines))) (goes_out_by (map note_line_of lines)) (goes_out_by (map note_line_of (drop i lines))) →
+    (λ k. k.says) (map note_line_of (drop i lines))) (goes_out_by changed (map note_line_of lines)) (goes_out_by changed (map note_line_of (drop i lines))) →
     Steps cur new z y (line_price (expr_of l.says)) (bytes_loaded (expr_of l.says)) 0 0 (4 * (line_size (expr_of l.says) + 4)) (λ m. ⊥) → HasWidth new 1 last →
     Tries cur new z y left last (LineFails cur z big (expr_of l.says) n) (λ from x v b. HasEvent v) → Narrows cur new left last (λ x q. Unit {0}) →
     LinesTried old new s y rest last big n (λ S. S.next) (map (λ k. k.says) (map note_line_of lines)) (map
-    (λ k. k.says) (map note_line_of (drop (i + 1) lines))) (goes_out_by (map note_line_of lines)) (goes_out_by (map note_line_of (drop (i + 1) lines)))
-judged_on old cur new s z y rest left last big n lines i l within at w names pc k steps bit tries narrows =
+    (λ k. k.says) (map note_line_of (drop (i + 1) lines))) (goes_out_by changed (map note_line_of lines)) (goes_out_by changed (map note_line_of (drop (i + 1) lines)))
+judged_on changed old cur new s z y rest left last big n lines i l within at w names pc k steps bit tries narrows =
     line_tried old cur new s z y rest left last big n (λ S. S.next) (map (λ k. k.says) (map note_line_of lines)) (map
     (λ k. k.says) (map note_line_of (drop (i + 1) lines))) (expr_of l.says)
-    (goes_out_by (map note_line_of lines)) (goes_out_by (note_line_of l
-    ∷ map note_line_of (drop (i + 1) lines))) (goes_out_by (map note_line_of (drop (i + 1) lines)))
-    (ensure_by (note_line_of l) (map note_line_of (drop (i + 1) lines))) w names pc
+    (goes_out_by changed (map note_line_of lines)) (goes_out_by changed (note_line_of l
+    ∷ map note_line_of (drop (i + 1) lines))) (goes_out_by changed (map note_line_of (drop (i + 1) lines)))
+    (ensure_by changed (note_line_of l) (map note_line_of (drop (i + 1) lines))) w names pc
     (subst (λ (q : List SourceLine). LinesTried old cur s z rest left big n
     (λ S. S.next) (map (λ k. k.says) (map note_line_of lines)) (map
-    (λ k. k.says) (map note_line_of q)) (goes_out_by (map note_line_of lines)) (goes_out_by (map note_line_of q)))
+    (λ k. k.says) (map note_line_of q)) (goes_out_by changed (map note_line_of lines)) (goes_out_by changed (map note_line_of q)))
     (drop_here lines i l within at) k)
     steps bit tries narrows
 
@@ -227,3 +245,12 @@ checks_on old cur new s z y rest left last big n all others x says same w names 
     w names pc (k J)
     (subst (λ (q : Expr). Steps cur new z y (line_price q) (bytes_loaded q) 0 0 (4 * (line_size q + 4)) (λ m. ⊥)) same steps) bit
     (subst (λ (q : Expr). Tries cur new z y left last (LineFails cur z big q n) (λ from x v b. HasEvent v)) same tries) narrows
+
+-- one element more of a list that is mapped
+pub map_more : {X Y : Type 0} → (f : X → Y) (xs : List X) (i : ℕ) (x : X) → i < length xs → x ≡ get_or xs i x → map f (take (i + 1) xs) ≡ map f (take i xs) ++ f x ∷ []
+map_more f xs i x l e =
+    ap (map f) (take_more xs i x l) ∙ map-append f (take i xs) (get_or xs i x ∷ []) ∙ ap (λ z. map f (take i xs) ++ f z ∷ []) (sym e)
+
+-- an element of a list is mapped to one
+pub map_among : {X Y : Type 0} → (f : X → Y) (xs : List X) (x : X) → Contains xs x → Contains (map f xs) (f x)
+map_among f xs x (i, l, e) = (i, (let m = length-map xs f in omega (arith, m, l)), get_or-map f xs i x (f x) l ∙ ap f e)

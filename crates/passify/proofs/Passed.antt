@@ -14,11 +14,13 @@ use Rattle.passify.specs.declared.sweep.Sweep.{Sweep}
 use Rattle.passify.specs.Handled.{IsHandled, IsSweepOf}
 use Rattle.passify.specs.Plain.{held_for, others_fail}
 use Rattle.passify.specs.Rows.{is_of_head, own_point}
+use Rattle.passify.specs.Spans.{AreOwn}
 use Rattle.passify.specs.Sweeps.{AreWell, ShowsAt}
 use Rattle.passify.specs.Swept.{IsPassed, ShowsAll}
 use Rattle.passify.proofs.Kept.{tells_keep}
 use Rattle.passify.proofs.Plained.{hand_others, if_others}
-use Rattle.passify.proofs.Pointed.{like_sweep}
+use Rattle.passify.proofs.Lines.{like_sweep}
+use Rattle.passify.proofs.Pointed.{own_keeps}
 use Rattle.passify.proofs.Standing.{framed_is}
 
 -- events of the two kinds change their bits
@@ -42,6 +44,9 @@ exchanged_well nodes s w = record {
 
 pub exchanged_sweep : (u : Unrolled) (s : Sweep) → IsSweepOf u s → IsSweepOf u (exchanged s)
 exchanged_sweep u s k = record { form = k.form; at = k.at; places = k.places }
+
+pub exchanged_own : (u : Unrolled) (nodes : List TermNode) (s : Sweep) → AreOwn u nodes s → AreOwn u nodes (exchanged s)
+exchanged_own u nodes s k = record { each = k.each; count = k.count; written = k.written }
 
 no_true : true ≡ false → ⊥
 no_true e = cc
@@ -68,7 +73,7 @@ round : (nodes : List TermNode) (s : Sweep) (from : ℕ) (x : TermReading) (h : 
 round nodes s from x h stack at k = record { mets = k.shows.mets; carries = k.shows.carries; failing = k.stepping; turning = k.shows.turning }
 
 module _ (u : Unrolled) (old new : List TermNode) (s z : Sweep) (place : ℕ) (n : Names) (within : place < length u.points.items) (of : IsSweepOf u s)
-    (w : AreWell old s)
+    (w : AreWell old s) (own : AreOwn u old s)
   where
     abbrev f : UnrolledProgram
     f = frame_unrolled_of u
@@ -85,13 +90,19 @@ module _ (u : Unrolled) (old new : List TermNode) (s z : Sweep) (place : ℕ) (n
           inputs = k.steps.inputs;
           well = k.steps.well;
           sweep = like_sweep u s z k.steps.like of;
-          shows = λ r reads begins h shows den. record {
-            shows = subst (λ (a : Anchor). ShowsAt new z (suc place) (part_reading f r) (held_for a (sweep_on f r place h))) is
-                (k.shows r reads begins h (subst (λ (a : Anchor). ShowsAt old s (suc place) (part_reading f r) (held_for a h)) (sym is) shows.shows) den);
-            stepping = subst (λ (b : Bool). Tells new (part_reading f r) z.steps.0 b) (sym (others_stay f r place h AtEntry is))
-                (subst (λ (t : Term). Tells new (part_reading f r) t.0 h.steps) (sym k.steps.like.steps)
-                (tells_keep k.steps.grew (part_reading f r) s.steps.0 h.steps w.steps.0 shows.stepping));
-          };
+          own = own_keeps u old new s z own k.steps.grew k.steps.like.own k.steps.like.at;
+          shows = λ r reads begins h shows den.
+              let y = k.shows r reads begins h (subst (λ (a : Anchor). ShowsAt old s (suc place) (part_reading f r) (held_for a h)) (sym is) shows.shows) den in (
+                y.0,
+                y.1,
+                record {
+                  shows = subst (λ (a : Anchor). ShowsAt new z (suc place) (part_reading f r) (held_for a y.0)) is y.2;
+                  stepping = subst (λ (b : Bool). Tells new (part_reading f r) z.steps.0 b) (sym (ap (λ (q : Held). q.steps) y.1.low
+                      ∙ others_stay f r place h AtEntry is))
+                      (subst (λ (t : Term). Tells new (part_reading f r) t.0 h.steps) (sym k.steps.like.steps)
+                      (tells_keep k.steps.grew (part_reading f r) s.steps.0 h.steps w.steps.0 shows.stepping));
+                },
+              );
         }
 
     -- a point of a segment from a head
@@ -104,20 +115,25 @@ module _ (u : Unrolled) (old new : List TermNode) (s z : Sweep) (place : ℕ) (n
           inputs = k.steps.inputs;
           well = exchanged_well new z k.steps.well;
           sweep = exchanged_sweep u z (like_sweep u (exchanged s) z k.steps.like (exchanged_sweep u s of));
+          own = own_keeps u old new s (exchanged z) own k.steps.grew k.steps.like.own k.steps.like.at;
           shows = λ r reads begins h shows den.
               let x = part_reading f r in
-              let y = subst (λ (b : Anchor). ShowsAt new z (suc place) x (held_for b (sweep_on f r place h))) is
-              (k.shows r reads begins h (subst (λ (b : Anchor). ShowsAt old (exchanged s) (suc place) x (held_for b h)) (sym is)
-              (round old s (suc place) x h a.0 a.1 shows)) den) in
-              record {
-                shows = record {
-                  mets = y.mets;
-                  carries = y.carries;
-                  failing = subst (λ (b : Bool). Tells new x z.steps.0 b) (sym (others_stay f r place h (AtHead a.0 a.1) is))
-                      (subst (λ (t : Term). Tells new x t.0 h.fails) (sym k.steps.like.steps)
-                      (tells_keep k.steps.grew x s.fails.0 h.fails w.fails.0 shows.shows.failing));
-                  turning = y.turning;
-                };
-                stepping = y.failing;
-              };
+              let q = k.shows r reads begins h (subst (λ (b : Anchor). ShowsAt old (exchanged s) (suc place) x (held_for b h)) (sym is)
+              (round old s (suc place) x h a.0 a.1 shows)) den in
+              let y = subst (λ (b : Anchor). ShowsAt new z (suc place) x (held_for b q.0)) is q.2 in (
+                q.0,
+                q.1,
+                record {
+                  shows = record {
+                    mets = y.mets;
+                    carries = y.carries;
+                    failing = subst (λ (b : Bool). Tells new x z.steps.0 b) (sym (ap (λ (g : Held). g.fails) q.1.low
+                        ∙ others_stay f r place h (AtHead a.0 a.1) is))
+                        (subst (λ (t : Term). Tells new x t.0 h.fails) (sym k.steps.like.steps)
+                        (tells_keep k.steps.grew x s.fails.0 h.fails w.fails.0 shows.shows.failing));
+                    turning = y.turning;
+                  };
+                  stepping = y.failing;
+                },
+              );
         }

@@ -35,7 +35,7 @@ module _ (old new : List TermNode) (s : Sweep) (hit : ℕ) (t : Term) (w : AreWe
         inputs = k.inputs;
         well = well_ends new s t s.turns v k.width v.turns;
         like = record
-            { entry = refl; pc = refl; at = refl; places = refl; steps = refl };
+            { entry = refl; pc = refl; at = refl; places = refl; steps = refl; own = refl };
       }
 
   pub fail_hands : Makes old new 1 2 1 t.0 (TellsByBoth (λ p q. p || q) old new s.fails.0 hit t.0) →
@@ -62,7 +62,7 @@ module _ (old new : List TermNode) (s : Sweep) (hit : ℕ) (t : Term) (w : AreWe
         inputs = k.inputs;
         well = well_ends new s s.fails t v v.fails k.width;
         like = record
-            { entry = refl; pc = refl; at = refl; places = refl; steps = refl };
+            { entry = refl; pc = refl; at = refl; places = refl; steps = refl; own = refl };
       }
 
   pub turn_hands : Makes old new 1 2 1 t.0 (TellsByBoth (λ p q. p || q) old new s.turns.0 hit t.0) →
@@ -143,6 +143,7 @@ pub record Placed (s z : Sweep) (j : ℕ) (t : Term) (n : Names) : Type 0 where
   pub states : z.states.items ≡ set s.states.items j (Some n)
   pub fails : z.fails ≡ s.fails
   pub steps : z.steps ≡ s.steps
+  pub own : z.own ≡ s.own
   pub turns : z.turns ≡ s.turns
 
 module _ (nodes : List TermNode) (s z : Sweep) (j : ℕ) (t : Term) (n : Names) (p : Placed s z j t n) (w : AreWell nodes s) where
@@ -223,7 +224,7 @@ module _ (old mid new : List TermNode) (s z : Sweep) (j hit : ℕ) (t : Term) (m
     inputs = inputs_on old mid new (λ q. ⊥) joined.inputs k.inputs;
     well = placed_well new s z j t n p (well_keeps both_grew s k.typed w) k.width
         (terms_keep k.grew s.entry n (record { same = form_on s.entry m n hm.same joined.terms.same; names = joined.terms.names }));
-    like = record { entry = p.entry; pc = p.pc; at = p.at; places = met_length old s z j t n p w; steps = p.steps };
+    like = record { entry = p.entry; pc = p.pc; at = p.at; places = met_length old s z j t n p w; steps = p.steps; own = p.own };
   }
 
   pub arrive_hands : Hands old new s z hit (ComesTo old m j)

@@ -1,19 +1,20 @@
 -- The exits of a row, tried one by one.
 use Rattle.std.proofs.Common.{◌≡◌, ℕ, ◌+◌, Bool, true, false, List, [], ◌∷◌, ◌++◌, map, refl, ap, sym, ◌∙◌, subst, arith}
-use Rattle.std.specs.Prelude.{sum_by}
+use Rattle.std.specs.Prelude.{◌||◌, Option, Some, None, sum_by}
 use Rattle.std.specs.List.{list_any}
 use Rattle.machine_spec.specs.Endings.{CodeWritten, AlignFails, JumpFails}
 use Rattle.term_spec.specs.Terms.{TermReading, InRange, TermNode, HasWidth, term_word}
 use Rattle.walk_spec.specs.Unrolled.{WalkFails, carried_of, is_in, state_at}
-use Rattle.frame_spec.specs.Frames.{OfStep}
-use Rattle.frame_spec.specs.FrameWalk.{PointExit, Raising, WritingKept, Unaligned, first_aim, is_raised, is_unaligned, raised_event}
-use Rattle.walk_spec.specs.Sweep.{Held, held_if}
+use Rattle.frame_spec.specs.Frames.{Contract, OfStep, WritesFails}
+use Rattle.frame_spec.specs.FrameUnrolling.{outside_exit, own_of}
+use Rattle.frame_spec.specs.FrameWalk.{Own, PointExit, Raising, WritingKept, WritingOutside, Unaligned, first_aim, is_outside, is_raised, is_unaligned, raised_event}
+use Rattle.walk_spec.specs.Sweep.{Held, held_if, hand}
 use Rattle.term_spec.specs.Passive.{Tells}
 use Rattle.term_dag.specs.Made.{Grew}
 use Rattle.term_dag.proofs.Growth.{grew_more}
 use Rattle.question_form.specs.declared.unrolled.Edge.{Edge}
 use Rattle.question_form.specs.declared.unrolled.Unrolled.{Unrolled}
-use Rattle.question_form.specs.FrameViews.{edge_of}
+use Rattle.question_form.specs.FrameViews.{edge_of, own_contract}
 use Rattle.term_names.specs.declared.names.Names.{Names}
 use Rattle.term_names.specs.Chosen.{at_entry}
 use Rattle.note_terms.specs.declared.Now.{Now}
@@ -22,7 +23,7 @@ use Rattle.passify.specs.Sweeps.{AreWell, AreLike, AreTermsOf, Steps, HasEvent, 
 use Rattle.passify.specs.Exits.{IsPending, Narrows, Tries}
 use Rattle.passify.specs.Situations.{Situation, deciding, goes}
 use Rattle.passify.specs.Edges.{AreEdges, AreLater, EdgesTried, GoesHere, IsLeftBy, aim_gates, aim_loads, aim_joins, aim_nodes}
-use Rattle.passify.specs.Rows.{IsLeaving, LeavesHere}
+use Rattle.passify.specs.Rows.{IsLeaving, LeavesHere, is_refused}
 use Rattle.passify.proofs.Kept.{tells_keep, word_keeps, denotes_keep, shows_keep, terms_keep}
 use Rattle.passify.proofs.Lines.{event_by, steps_on}
 use Rattle.passify.proofs.Tried.{bit_false}
@@ -61,7 +62,7 @@ pending_end old new s z from x left before after S r hands k = by k.some k.tells
     by false t g sh = hands x r from (WalkFails JumpFails) false (JumpFails, refl) t after sh
 
 -- all edges were tried
-edges_steps : (u : Unrolled) (old new : List TermNode) (s z : Sweep) (n : Names) (all : List Edge) → AreEdges u old new s z n all [] →
+pub edges_steps : (u : Unrolled) (old new : List TermNode) (s z : Sweep) (n : Names) (all : List Edge) → AreEdges u old new s z n all [] →
     Steps old new s z (sum_by (λ e. 35 + aim_gates u n e.aim) all) (sum_by (λ e. aim_loads u e.aim) all) 0 (sum_by (λ e. aim_joins e.aim) all)
     (sum_by (λ e. 14 + aim_nodes u n e.aim) all) (λ m. ⊥)
 edges_steps u old new s z n all k = record {
@@ -74,7 +75,7 @@ edges_steps u old new s z n all k = record {
   like = k.steps.like;
 }
 
-exits_end : (xs : List PointExit) → xs ++ [] ≡ xs
+pub exits_end : (xs : List PointExit) → xs ++ [] ≡ xs
 exits_end [] = refl
 exits_end (x ∷ xs) = ap (λ (l : List PointExit). x ∷ l) (exits_end xs)
 
@@ -116,6 +117,30 @@ pub leave_names : (d0 d1 d2 d3 : List TermNode) (s0 s1 s2 s3 : Sweep) (n : Names
 leave_names d0 d1 d2 d3 s0 s1 s2 s3 n h p q r =
     names_step d2 d3 s2 s3 3 0 0 0 8 (λ m. ⊥) n r (names_step d1 d2 s1 s2 3 0 0 0 8 (λ m. ⊥) n q (names_step d0 d1 s0 s1 3 0 0 0 8 (λ m. ⊥) n p h))
 
+either_if : (p q : Bool) (a b c : Held) → held_if p a (held_if q a c) ≡ held_if (p || q) a c
+either_if true q a b c = refl
+either_if false q a b c = refl
+
+-- the exits by what is written are one
+pub refused_by : (S : Situation) (o : Option Contract) (rest : List PointExit) (h : Held) → S.program.own ≡ own_of o →
+    goes S (WritingKept ∷ (outside_exit o ++ rest)) h ≡ held_if (is_refused S) (hand (WalkFails JumpFails) h) (goes S rest h)
+refused_by S None rest h e =
+    event_by (list_any (is_in S.program.kept) S.stored) S.program S.entry S.next (OfStep CodeWritten) (first_aim S.program (deciding S) rest) h
+    ∙ ap (λ (b : Bool). held_if b (hand (WalkFails JumpFails) h) (goes S rest h))
+    (or_false (list_any (is_in S.program.kept) S.stored)
+    ∙ ap (λ (o : Option Own). list_any (is_in S.program.kept) S.stored || is_outside o S.program.endian S.entry S.stored) (sym e))
+  where
+    or_false : (b : Bool) → b ≡ (b || false)
+    or_false true = refl
+    or_false false = refl
+refused_by S (Some x) rest h e =
+    let fails = hand (WalkFails JumpFails) h in
+    event_by (list_any (is_in S.program.kept) S.stored) S.program S.entry S.next (OfStep CodeWritten)
+    (first_aim S.program (deciding S) (WritingOutside ∷ rest)) h
+    ∙ ap (λ (y : Held). held_if (list_any (is_in S.program.kept) S.stored) fails y)
+    (event_by (is_outside S.program.own S.program.endian S.entry S.stored) S.program S.entry S.next WritesFails (first_aim S.program (deciding S) rest) h)
+    ∙ either_if (list_any (is_in S.program.kept) S.stored) (is_outside S.program.own S.program.endian S.entry S.stored) fails fails (goes S rest h)
+
 module _ (u : Unrolled) (d0 d1 d2 d3 d4 : List TermNode) (s0 s1 s2 s3 s4 : Sweep) (rest quiet kept aligned left : ℕ) (raise write off : ℕ)
     (next : Now)
     (jumped link : ℕ) (edges : List Edge)
@@ -137,8 +162,8 @@ module _ (u : Unrolled) (d0 d1 d2 d3 d4 : List TermNode) (s0 s1 s2 s3 s4 : Sweep
 
   module _ (x : TermReading) (r : InRange x) (S : Situation) (fits : term_word x d0 rest ≡ 1 →
       LeavesHere d0 s0 u.big raise write off next jumped link x S) where
-    takes2 : term_word x d1 quiet ≡ 1 → Tells d1 x write (list_any (is_in S.program.kept) S.stored)
-    takes2 h = tells_keep st1.grew x write (list_any (is_in S.program.kept) S.stored) ww.0 (fits (narrows1 x r h).0).wrote
+    takes2 : term_word x d1 quiet ≡ 1 → Tells d1 x write (is_refused S)
+    takes2 h = tells_keep st1.grew x write (is_refused S) ww.0 (fits (narrows1 x r h).0).wrote
 
     not_raised : term_word x d2 kept ≡ 1 → (term_word x d0 rest ≡ 1) × (is_raised S.leaving ≡ false)
     not_raised h = let k = narrows1 x r (narrows2 x r h).0 in (k.0, bit_false (is_raised S.leaving) (sym (fits k.0).raised ∙ k.1))
@@ -152,7 +177,7 @@ module _ (u : Unrolled) (d0 d1 d2 d3 d4 : List TermNode) (s0 s1 s2 s3 s4 : Sweep
         goes_keep d0 d3 _ _ _ _ _ s0 s3 u.big next jumped link x S leave_steps3.grew leave_steps3.like names pc wj wl ((fits k.0).goes_on k.1)
 
     abbrev behind1 : List PointExit
-    behind1 = WritingKept ∷ Unaligned ∷ map (edge_of u) edges
+    behind1 = WritingKept ∷ (outside_exit (own_contract u) ++ Unaligned ∷ map (edge_of u) edges)
 
     abbrev behind2 : List PointExit
     behind2 = Unaligned ∷ map (edge_of u) edges
@@ -169,10 +194,9 @@ module _ (u : Unrolled) (d0 d1 d2 d3 d4 : List TermNode) (s0 s1 s2 s3 s4 : Sweep
         (goes S (Raising ∷ behind1) before) (goes S behind1 before)
         (event_by (is_raised S.leaving) S.program S.entry S.next (raised_event S.leaving)
         (first_aim S.program (deciding S) behind1) before) p0 in
-        let p2 = tries2 x r from (WalkFails JumpFails) (list_any (is_in S.program.kept) S.stored) takes2
+        let p2 = tries2 x r from (WalkFails JumpFails) (is_refused S) takes2
         (λ b h. (JumpFails, refl)) before after (goes S behind1 before) (goes S behind2 before)
-        (event_by (list_any (is_in S.program.kept) S.stored) S.program S.entry S.next (OfStep CodeWritten) (first_aim S.program
-        (deciding S) behind2) before) p1 in
+        (refused_by S (own_contract u) behind2 before leaves.own) p1 in
         let p3 = tries3 x r from (WalkFails JumpFails) (is_unaligned S.program.narrow S.leaving) takes3
         (λ b h. (JumpFails, refl)) before after (goes S behind2 before) (goes S behind3 before)
         (event_by (is_unaligned S.program.narrow S.leaving) S.program S.entry S.next (OfStep AlignFails) (first_aim S.program

@@ -1,6 +1,6 @@
 -- What all points may cost is what the price counts.
 use Rattle.std.proofs.Common.{◌≡◌, ℕ, ◌+◌, ◌-◌, ◌*◌, ◌≤◌, List, [], ◌∷◌, length, sum_by, refl, ap, ◌∙◌, arith}
-use Rattle.std.specs.List.{flat_map}
+use Rattle.std.specs.List.{flat_map, list_any}
 use Rattle.std.proofs.lemmas.Nat.{mul-le}
 use Rattle.std.proofs.lemmas.List.Sums.{sum_by-cons, sum_by-append}
 use Rattle.bilv_spec.specs.Notes.{Expr}
@@ -8,7 +8,7 @@ use Rattle.bilv_spec.specs.Points.{line_price, bytes_loaded}
 use Rattle.term_spec.specs.Terms.{TermNode, term_gates, term_loads, term_stores, term_joins}
 use Rattle.walk_spec.specs.Prices.{line_size, line_steps}
 use Rattle.frame_spec.specs.FrameWalk.{UnrolledPoint, UnrolledProgram}
-use Rattle.frame_laws.specs.FramePrices.{is_edge, lines_at, action_size, variables_of, edges_of, stores_of, point_price, point_loads, point_bound, root_bound, root_lines}
+use Rattle.frame_laws.specs.FramePrices.{is_edge, goes_out, lines_at, action_size, variables_of, edges_of, stores_of, own_exit, own_writes, point_price, point_loads, point_bound, root_bound, begin_lines}
 use Rattle.term_dag.specs.Made.{Grew}
 use Rattle.passify.specs.Handled.{point_gates, point_loaded, point_joins, point_nodes}
 use Rattle.passify.specs.Planted.{LeaveRootRoom}
@@ -27,17 +27,21 @@ module _ (u : UnrolledProgram) where
 
   gates_sum : (ps : List UnrolledPoint) →
       sum_by (point_gates u) ps
-      ≡ sum_by (λ q. q.row) ps + 1280 * sum_by (λ q. sum_by is_edge q.exits) ps + sum_by line_price (flat_map (lines_at u) ps) + 128 * (sum_by
-      (λ q. q.stores) ps * length u.kept)
-  gates_sum [] = let e : 0 ≡ 0 + 128 * (0 * length u.kept) = omega arith in e
+      ≡ sum_by (λ q. q.row) ps + 1280 * sum_by (λ q. sum_by is_edge q.exits) ps + sum_by line_price (flat_map (lines_at u) ps)
+      + sum_by (λ q. own_exit u.own (list_any goes_out q.exits)) ps + 512 * (sum_by (λ q. q.stores) ps * own_writes u)
+      + 128 * (sum_by (λ q. q.stores) ps * length u.kept)
+  gates_sum [] = let e : 0 ≡ 0 + 512 * (0 * own_writes u) + 128 * (0 * length u.kept) = omega arith in e
   gates_sum (q ∷ ps) =
       let a = sum_by-cons (point_gates u) q ps in
       let b = sum_by-cons (λ (p : UnrolledPoint). p.row) q ps in
       let c = sum_by-cons (λ (p : UnrolledPoint). sum_by is_edge p.exits) q ps in
       let d = lines_sum line_price q ps in
+      let x = sum_by-cons (λ (p : UnrolledPoint). own_exit u.own (list_any goes_out p.exits)) q ps in
+      let w = ap (λ z. z * own_writes u) (sum_by-cons (λ (p : UnrolledPoint). p.stores) q ps) ∙ product_on q.stores (sum_by
+      (λ p. p.stores) ps) (own_writes u) in
       let e = ap (λ z. z * length u.kept) (sum_by-cons (λ (p : UnrolledPoint). p.stores) q ps) ∙ product_on q.stores (sum_by
       (λ p. p.stores) ps) (length u.kept) in
-      omega (arith, gates_sum ps, a, b, c, d, e)
+      omega (arith, gates_sum ps, a, b, c, d, x, w, e)
 
   loads_sum : (ps : List UnrolledPoint) → sum_by (point_loaded u) ps ≡ sum_by (λ q. q.loads) ps + sum_by bytes_loaded (flat_map (lines_at u) ps)
   loads_sum [] = refl
@@ -59,17 +63,20 @@ module _ (u : UnrolledProgram) where
       sum_by (point_nodes u) ps
       ≡ 4
       * (sum_by (λ q. action_size q.does) ps + variables_of u * sum_by (λ q. sum_by is_edge q.exits) ps
-      + (16 * length ps + line_steps (flat_map (lines_at u) ps) + 4 * (sum_by (λ q. q.stores) ps * length u.kept)))
-  nodes_sum [] = let e : 0 ≡ 4 * (0 + variables_of u * 0 + (16 * 0 + 0 + 4 * (0 * length u.kept))) = omega arith in e
+      + (16 * length ps + line_steps (flat_map (lines_at u) ps) + 4 * (sum_by (λ q. q.stores) ps * length u.kept)
+      + 4 * (sum_by (λ q. q.stores) ps * own_writes u)))
+  nodes_sum [] = let e : 0 ≡ 4 * (0 + variables_of u * 0 + (16 * 0 + 0 + 4 * (0 * length u.kept) + 4 * (0 * own_writes u))) = omega arith in e
   nodes_sum (q ∷ ps) =
       let a = sum_by-cons (point_nodes u) q ps in
       let b = sum_by-cons (λ (p : UnrolledPoint). action_size p.does) q ps in
       let c = ap (λ z. variables_of u * z) (sum_by-cons (λ (p : UnrolledPoint). sum_by is_edge p.exits) q ps)
       ∙ product_back (sum_by is_edge q.exits) (sum_by (λ p. sum_by is_edge p.exits) ps) (variables_of u) in
       let d = lines_sum (λ e. line_size e + 4) q ps in
+      let w = ap (λ z. z * own_writes u) (sum_by-cons (λ (p : UnrolledPoint). p.stores) q ps) ∙ product_on q.stores (sum_by
+      (λ p. p.stores) ps) (own_writes u) in
       let e = ap (λ z. z * length u.kept) (sum_by-cons (λ (p : UnrolledPoint). p.stores) q ps) ∙ product_on q.stores (sum_by
       (λ p. p.stores) ps) (length u.kept) in
-      omega (arith, nodes_sum ps, a, b, c, d, e)
+      omega (arith, nodes_sum ps, a, b, c, d, w, e)
 
   -- one point more is paid for
   pub room_on : (old new : List TermNode) (q : UnrolledPoint) (rest : List UnrolledPoint) → LeaveRoom u old (q ∷ rest) →
@@ -105,10 +112,10 @@ module _ (u : UnrolledProgram) where
 
   -- all is
   module _ (nodes : List TermNode) (r : LeaveRoom u nodes []) where
-    pub all_gates : term_gates nodes ≤ point_price u + sum_by line_price (root_lines u)
+    pub all_gates : term_gates nodes ≤ point_price u + sum_by line_price (begin_lines u)
     all_gates = let a = gates_sum u.points in omega (arith, r.gates, a)
 
-    pub all_loads : term_loads nodes ≤ point_loads u + sum_by bytes_loaded (root_lines u)
+    pub all_loads : term_loads nodes ≤ point_loads u + sum_by bytes_loaded (begin_lines u)
     all_loads = let a = loads_sum u.points in omega (arith, r.loads, a)
 
     pub all_stores : term_stores nodes ≤ stores_of u

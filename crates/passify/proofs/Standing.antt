@@ -1,5 +1,5 @@
 -- What stands at a place.
-use Rattle.std.proofs.Common.{◌≡◌, ℕ, zero, suc, ◌+◌, ◌-◌, ◌<◌, ◌≤◌, Bool, true, false, List, [], ◌∷◌, Option, Some, length, map, drop, take, get_or, refl, ap, sym, ◌∙◌, subst, arith, nat_eq, nat_lt, Contains}
+use Rattle.std.proofs.Common.{◌≡◌, ℕ, zero, suc, ◌+◌, ◌-◌, ◌<◌, ◌≤◌, Bool, true, false, List, [], ◌∷◌, Option, Some, None, ◌++◌, length, map, drop, take, get_or, refl, ap, sym, ◌∙◌, subst, arith, nat_eq, nat_lt, Contains}
 use Rattle.std.proofs.Math.Path.{fun_ext}
 use Rattle.std.specs.Prelude.{slice_index, slice_index_or, slice_range, sum_by}
 use Rattle.std.specs.List.{list_any}
@@ -20,21 +20,26 @@ use Rattle.walk_spec.specs.Unrolled.{UnrolledProgram, point_at, is_register_of}
 use Rattle.walk_spec.specs.Unrolled as walk
 use Rattle.walk_spec.specs.Unrolling.{IsReadable, is_variable_of}
 use Rattle.frame_spec.specs.FrameWalk as frames
-use Rattle.frame_spec.specs.FrameWalk.{Check, UnrolledProgram as FrameProgram, UnrolledPoint, PointExit, FalseCheck, Raising, WritingKept, Unaligned, Executes, LeadsLater}
-use Rattle.frame_spec.specs.FrameUnrolling.{IsRunnable, CanBeTerms, is_variable_of as frame_is_variable}
-use Rattle.frame_laws.specs.FramePrices.{goes_out, line_of}
-use Rattle.frame_terms.specs.PassiveFrames.{CanRead, CanReadLines, IsWalkable, inputs_of}
+use Rattle.frame_spec.specs.FrameWalk.{Check, UnrolledProgram as FrameProgram, UnrolledPoint, PointExit, FalseCheck, FalseNeed, NotGiven, Raising, WritingKept, Unaligned, Executes, LeadsLater}
+use Rattle.frame_spec.specs.Frames.{Contract}
+use Rattle.frame_spec.specs.FrameUnrolling.{outside_exit, own_of, IsRunnable, CanBeTerms, is_variable_of as frame_is_variable}
+use Rattle.frame_laws.specs.FramePrices.{exit_lines, goes_out, line_of}
+use Rattle.frame_terms.specs.PassiveFrames.{CanRead, CanReadLines, CanReadOwn, IsWalkable, inputs_of}
+use Rattle.start_value.specs.declared.layout.Layout.{Layout}
+use Rattle.start_value.specs.declared.layout.Layout.TheVariants as layouts
+use Rattle.start_value.specs.Starts.{layout_of}
 use Rattle.notes_value.specs.NoteViews.{notes_of}
 use Rattle.question_form.specs.declared.unrolled.Aim.{Aim}
 use Rattle.question_form.specs.declared.unrolled.Aim.TheVariants.{OnTo, IntoHead, Outward, OverLast}
 use Rattle.question_form.specs.declared.unrolled.Code.{Code}
 use Rattle.question_form.specs.declared.unrolled.Deed.{Deed}
-use Rattle.question_form.specs.declared.unrolled.Deed.TheVariants.{Row}
+use Rattle.question_form.specs.declared.unrolled.Deed.TheVariants as deeds
+use Rattle.question_form.specs.declared.unrolled.Deed.TheVariants.{Row, Arrival}
 use Rattle.question_form.specs.declared.unrolled.Edge.{Edge}
 use Rattle.question_form.specs.declared.unrolled.Point.{Point}
 use Rattle.question_form.specs.declared.unrolled.Unrolled.{Unrolled}
 use Rattle.question_form.specs.Views.{edges_from, no_code, point_of, points_of, unrolled_of}
-use Rattle.question_form.specs.FrameViews.{exits_of, edge_of as frame_edge_of, point_of as frame_point_of, points_of as frame_points_of, row_exits as frame_row_exits, frame_unrolled_of}
+use Rattle.question_form.specs.FrameViews.{exits_of, edge_of as frame_edge_of, own_contract, point_of as frame_point_of, points_of as frame_points_of, row_exits as frame_row_exits, stepped_at, frame_unrolled_of}
 use Rattle.question_form.specs.Forms.{AreBounds, AreRootsFormed, IsFormed}
 use Rattle.term_names.specs.declared.names.Names.{Names}
 use Rattle.term_names.specs.Views.{AreFor, form_of, names_of}
@@ -43,9 +48,10 @@ use Rattle.note_terms.proofs.Valued.{form_same, in_range, range_at, range_length
 use Rattle.passify.specs.declared.sweep.Sweep.{Sweep}
 use Rattle.passify.specs.Sweeps.{AreWell}
 use Rattle.passify.specs.Situations.{no_line}
-use Rattle.passify.specs.Edges.{AreLater, AreRead, CanGo, IsLater, IsPlaceOf, lines_to}
+use Rattle.passify.specs.Edges.{AreLater, AreRead, CanGo, IsLater, IsPlaceOf, lines_out, lines_to}
 use Rattle.passify.specs.Handled.{IsSweepOf}
-use Rattle.passify.specs.Rows.{no_point, own_point, own_code, own_checks, own_edges, own_index, own_lines, framed, placed}
+use Rattle.passify.specs.Rows.{no_point, own_point, own_code, own_checks, own_edges, own_index, own_lines, framed, index_for, placed}
+use Rattle.passify.proofs.Counted.{own_exits}
 use Rattle.passify.proofs.Pushed.{other_default}
 
 abbrev no_check : Check
@@ -86,10 +92,10 @@ variable_by u v p q bil.Mem = refl
 variable_by u v p q (bil.Local x n) = refl
 
 module _ (u : UnrolledProgram) (a b : Names) (f : AreFor u a) (h : HaveSameForm a b) where
-  registers_for : u.registers ≡ (form_of b).registers
+  pub registers_for : u.registers ≡ (form_of b).registers
   registers_for = f.registers ∙ ap (λ (v : UnrolledProgram). v.registers) (form_same a b h)
 
-  flags_for : u.flags ≡ (form_of b).flags
+  pub flags_for : u.flags ≡ (form_of b).flags
   flags_for = f.flags ∙ ap (λ (v : UnrolledProgram). v.flags) (form_same a b h)
 
   pub reads_for : (e : Expr) → IsReadable u e → IsReadable (form_of b) e
@@ -186,7 +192,7 @@ range_contains xs a b x h = drop_contains a xs x (take_contains (b - a) (drop a 
     drop_contains (suc n) (y ∷ xs) x h = let t = drop_contains n xs x h in (suc t.0, omega (arith, t.1), t.2)
 
 -- a line of the frame is read by the terms of a state
-reads_of : (u : Unrolled) (s : Sweep) (n : Names) (e : Expr) → IsSweepOf u s → HaveSameForm s.entry n → CanRead (frame_unrolled_of u) e →
+pub reads_of : (u : Unrolled) (s : Sweep) (n : Names) (e : Expr) → IsSweepOf u s → HaveSameForm s.entry n → CanRead (frame_unrolled_of u) e →
     IsReadable (form_of n) e
 reads_of u s n e k h r = reads_for (inputs_of (frame_unrolled_of u)) s.entry n k.form h e r
 
@@ -203,8 +209,56 @@ says_read u s n lines k h r e (i, l, at) =
     let same : line.says ≡ e = sym (get_or-map (λ (z : NoteLine). z.says) lines i no_line e there) ∙ at in
     subst (λ (z : Expr). IsReadable (form_of n) z) same (reads_of u s n line.says k h (r line (Contains-get_or lines i no_line there)))
 
+-- the lines of the exit
+pub out_lines : (u : Unrolled) (o : Option Contract) → own_contract u ≡ o → lines_out u ≡ exit_lines (record (frame_unrolled_of u) { own = own_of o })
+out_lines u o e = ap (λ (q : Option Contract). exit_lines (record (frame_unrolled_of u) { own = own_of q })) e
+
+pub out_read : (u : Unrolled) (s : Sweep) (n : Names) → IsSweepOf u s → HaveSameForm s.entry n → IsWalkable (frame_unrolled_of u) → (o : Option Contract) →
+    own_contract u ≡ o → AreRead n (lines_out u)
+out_read u s n k h walkable None e =
+    subst (λ (l : List Expr). AreRead n l) (sym (out_lines u None e)) (says_read u s n (notes_of u.notes.now).ensures k h walkable.ensures)
+out_read u s n k h walkable (Some x) e =
+    subst (λ (l : List Expr). AreRead n l) (sym (out_lines u (Some x) e))
+    (says_read u s n x.gives k h (subst (λ (q : Option Contract). CanReadOwn (frame_unrolled_of u) (own_of q)) e walkable.own).0)
+
+-- behind one exit more
+behind : (x y : PointExit) (xs : List PointExit) → Contains xs x → Contains (y ∷ xs) x
+behind x y xs (i, l, e) = (suc i, omega (arith, l), e)
+
+few_by : (a b n m : ℕ) → a ≡ n → b ≡ m → n + m ≤ 32 → a + b ≤ 32
+few_by a b n m p q l = omega (arith, p, q, l)
+
+-- the numbers of registers and flags are in their sets
+layout_first : (f : Layout) → (layout_of f).first + length (layout_of f).registers ≤ 32
+layout_first (layouts.Rv32 c) =
+    few_by (layout_of (layouts.Rv32 c)).first (length (layout_of (layouts.Rv32 c)).registers) 1 31 refl refl (omega arith)
+layout_first (layouts.Arm big profile) =
+    few_by (layout_of (layouts.Arm big profile)).first (length (layout_of (layouts.Arm big profile)).registers) 0 15 refl refl (omega arith)
+
+head_of : (a b n m : ℕ) → from_to a (suc n) ≡ from_to b m → a ≡ b
+head_of a b n zero e = absurd (cc)
+head_of a b n (suc m) e = cc
+
+pub sets_for : (u : Unrolled) (s : Sweep) (n : Names) → IsWalkable (frame_unrolled_of u) → IsSweepOf u s → HaveSameForm s.entry n →
+    (n.first + length n.registers.items ≤ 32) × (length n.flags.items ≤ 4)
+sets_for u s n walkable k h =
+    let form = layout_of u.form in
+    let count = length form.registers in
+    let e : length (from_to form.first count) ≡ length (from_to s.entry.first (length s.entry.registers.items)) = ap (λ (l : List ℕ). length l) k.form.registers in
+    let a = range_length form.first count in
+    let b = range_length s.entry.first (length s.entry.registers.items) in
+    let enough : 15 ≤ length (from_to form.first count) = walkable.sized.enough in
+    let first : form.first ≡ s.entry.first = first_by count k.form.registers (omega (arith, a, enough)) in
+    let l = layout_first u.form in
+    let f = walkable.sized.flags in
+    (omega (arith, l, e, a, b, first, h.first, h.registers), omega (arith, f, k.form.flags, h.flags))
+  where
+    first_by : (c : ℕ) → from_to (layout_of u.form).first c ≡ from_to s.entry.first (length s.entry.registers.items) → 1 ≤ c → (layout_of u.form).first ≡ s.entry.first
+    first_by zero e l = absurd (omega (arith, l))
+    first_by (suc c) e l = head_of (layout_of u.form).first s.entry.first c (length s.entry.registers.items) e
+
 module _ (u : Unrolled) (i : ℕ) (walkable : IsWalkable (frame_unrolled_of u)) (formed : IsFormed u) (within : i < length u.points.items) where
-  there : i < length (frame_unrolled_of u).points
+  pub there : i < length (frame_unrolled_of u).points
   there = let e = framed_length u u.points.items in omega (arith, e, within)
 
   pub code_within : (own_point u i).code < length u.codes.items
@@ -222,11 +276,19 @@ module _ (u : Unrolled) (i : ℕ) (walkable : IsWalkable (frame_unrolled_of u)) 
   pub code_bounds : AreBounds u (own_code u i).asserts
   code_bounds = formed.asserts (own_point u i).code no_code code_within
 
+  abbrev by_address : List (ℕ × ℕ)
+  by_address = slice_range u.asserts.items (own_code u i).asserts.0 (own_code u i).asserts.1
+
+  places_for : (d : Deed) (j : ℕ) → j < length (index_for d by_address) → (slice_index_or (index_for d by_address) j (0, 0)).1 < length u.notes.now.asserts.items
+  places_for Row j l = places_in u formed (own_code u i).asserts code_bounds j l
+  places_for Arrival j l = places_in u formed (own_code u i).asserts code_bounds j l
+  places_for (deeds.Contract n) j l = absurd (omega (arith, l))
+
   pub places_asserted : (j : ℕ) → j < length (own_index u i) → (slice_index_or (own_index u i) j (0, 0)).1 < length u.notes.now.asserts.items
-  places_asserted = places_in u formed (own_code u i).asserts code_bounds
+  places_asserted = places_for (own_point u i).deed
 
   -- the line of an exit is read
-  exit_read : (s : Sweep) (n : Names) → IsSweepOf u s → HaveSameForm s.entry n → (x : PointExit) → Contains (framed u i).exits x → AreRead n (line_of x)
+  pub exit_read : (s : Sweep) (n : Names) → IsSweepOf u s → HaveSameForm s.entry n → (x : PointExit) → Contains (framed u i).exits x → AreRead n (line_of x)
   exit_read s n k h x c e m =
       reads_of u s n e k h (walkable.exits i x there (subst (λ (q : UnrolledPoint). Contains q.exits x) (sym (framed_is u i within)) c) e m)
 
@@ -243,17 +305,39 @@ module _ (u : Unrolled) (i : ℕ) (walkable : IsWalkable (frame_unrolled_of u)) 
         get_or-map FalseCheck checks j no_check exit there,
       ) in
       subst (λ (z : Expr). IsReadable (form_of n) z) same
-      (exit_read s n k h exit (Contains-append_left (map FalseCheck checks) (exits_of u (own_point u i).deed (own_code u i) (own_edges u i)) exit among) c.says
+      (exit_read s n k h exit (subst (λ (xs : List PointExit). Contains xs exit) (sym (own_exits u i))
+      (Contains-append_left (map FalseCheck checks) (exits_of u (own_point u i).deed (own_code u i) (own_edges u i)) exit among)) c.says
       (0, omega arith, refl))
 
-  module _ (row : (own_point u i).deed ≡ Row) (list : Vec Stmt) (code : (own_code u i).list ≡ Some list) where
+  -- an exit behind those of the assert lines
+  pub behind_among : (x : PointExit) → Contains (exits_of u (own_point u i).deed (own_code u i) (own_edges u i)) x → Contains (framed u i).exits x
+  behind_among x c = subst (λ (xs : List PointExit). Contains xs x) (sym (own_exits u i))
+      (Contains-append_right (map FalseCheck (own_checks u i)) (exits_of u (own_point u i).deed (own_code u i) (own_edges u i)) x c)
+
+  pub row_edges : (own_point u i).deed ≡ Row → (list : Vec Stmt) → (own_code u i).list ≡ Some list → (x : PointExit) →
+      Contains (map (frame_edge_of u) (own_edges u i)) x → Contains (exits_of u (own_point u i).deed (own_code u i) (own_edges u i)) x
+  row_edges row list code x c =
+      let E = map (frame_edge_of u) (own_edges u i) in
+      let M = outside_exit (own_contract u) ++ Unaligned ∷ E in
+      subst (λ (d : Deed). Contains (exits_of u d (own_code u i) (own_edges u i)) x) (sym row)
+      (subst (λ (o : Option (Vec Stmt)). Contains (frame_row_exits u (own_code u i).fetchable o (own_edges u i)) x) (sym code)
+      (behind x Raising (WritingKept ∷ M) (behind x WritingKept M
+      (Contains-append_right (outside_exit (own_contract u)) (Unaligned ∷ E) x (behind x Unaligned E c)))))
+
+  pub contract_edges : (n : ℕ) → (own_point u i).deed ≡ deeds.Contract n → (x : PointExit) →
+      Contains (map (frame_edge_of u) (own_edges u i)) x → Contains (exits_of u (own_point u i).deed (own_code u i) (own_edges u i)) x
+  contract_edges n is x c =
+      let E = map (frame_edge_of u) (own_edges u i) in
+      let M = outside_exit (own_contract u) ++ NotGiven ∷ E in
+      subst (λ (d : Deed). Contains (exits_of u d (own_code u i) (own_edges u i)) x) (sym is)
+      (Contains-append_right (map (λ l. FalseNeed l.line l.says) (stepped_at u n).needs) (WritingKept ∷ M) x
+      (behind x WritingKept M (Contains-append_right (outside_exit (own_contract u)) (NotGiven ∷ E) x (behind x NotGiven E c))))
+
+  module _ (edge : (x : PointExit) → Contains (map (frame_edge_of u) (own_edges u i)) x →
+      Contains (exits_of u (own_point u i).deed (own_code u i) (own_edges u i)) x) where
     -- an edge is an exit
     edge_among : (x : PointExit) → Contains (map (frame_edge_of u) (own_edges u i)) x → Contains (framed u i).exits x
-    edge_among x c =
-        Contains-append_right (map FalseCheck (own_checks u i)) (exits_of u (own_point u i).deed (own_code u i) (own_edges u i)) x
-        (subst (λ (d : Deed). Contains (exits_of u d (own_code u i) (own_edges u i)) x) (sym row)
-        (subst (λ (o : Option (Vec Stmt)). Contains (frame_row_exits u (own_code u i).fetchable o (own_edges u i)) x) (sym code)
-        (Contains-append_right (Raising ∷ WritingKept ∷ Unaligned ∷ []) (map (frame_edge_of u) (own_edges u i)) x c)))
+    edge_among x c = behind_among x (edge x c)
 
     pub edges_later : AreLater (suc i) (own_edges u i)
     edges_later = later_by (frame_unrolled_of u) u i (own_edges u i) (λ x c. exits_later x (edge_among x c))
@@ -261,7 +345,7 @@ module _ (u : Unrolled) (i : ℕ) (walkable : IsWalkable (frame_unrolled_of u)) 
     lines_read : (s : Sweep) (n : Names) → IsSweepOf u s → HaveSameForm s.entry n → (falls jumps : Bool) (to : Option ℕ) (a : Aim) →
         Contains (framed u i).exits (frame_edge_of u (record { falls = falls; jumps = jumps; to = to; aim = a })) → AreRead n (lines_to u a)
     lines_read s n k h falls jumps to (OnTo j) c = nothing_read n
-    lines_read s n k h falls jumps to Outward c = says_read u s n (notes_of u.notes.now).ensures k h walkable.ensures
+    lines_read s n k h falls jumps to Outward c = out_read u s n k h walkable (own_contract u) refl
     lines_read s n k h falls jumps to (IntoHead at asserts) c =
         exit_read s n k h (frame_edge_of u (record { falls = falls; jumps = jumps; to = to; aim = IntoHead at asserts })) c
     lines_read s n k h falls jumps to OverLast c = nothing_read n
@@ -313,9 +397,3 @@ pub own_is : (u : Unrolled) (i : ℕ) (q : Point) (k : Code) → IsFormed u → 
 own_is u i q k formed within at is =
     let p : q ≡ own_point u i = at ∙ other_default u.points.items i q no_point within in
     is ∙ ap (λ (x : Point). get_or u.codes.items x.code k) p ∙ other_default u.codes.items (own_point u i).code k no_code (formed.codes i no_point within)
-
--- its assert lines by address
-pub index_is : (u : Unrolled) (i : ℕ) (k : Code) (items : List (ℕ × ℕ)) → k ≡ own_code u i → items ≡ u.asserts.items →
-    slice_range items k.asserts.0 k.asserts.1 ≡ own_index u i
-index_is u i k items e f = ap (λ (z : Code). slice_range items z.asserts.0 z.asserts.1) e ∙ ap
-    (λ (l : List (ℕ × ℕ)). slice_range l (own_code u i).asserts.0 (own_code u i).asserts.1) f

@@ -121,7 +121,7 @@ edges_none u ns s rest next jumped link all w b = record {
       grew = grew_none ns;
       inputs = inputs_none ns (λ m. ⊥);
       well = w;
-      like = record { entry = refl; pc = refl; at = refl; places = refl; steps = refl };
+      like = record { entry = refl; pc = refl; at = refl; places = refl; steps = refl; own = refl };
     };
     few_gates = omega arith;
     few_loads = omega arith;

@@ -1,5 +1,5 @@
 -- One place more.
-use Rattle.std.proofs.Common.{◌≡◌, inl, inr, ℕ, zero, suc, ◌+◌, ◌<◌, ◌≤◌, Bool, true, false, List, [], ◌∷◌, Option, Some, None, length, refl, ap, sym, ◌∙◌, subst, arith, drop, get_or}
+use Rattle.std.proofs.Common.{◌≡◌, inl, inr, ℕ, zero, suc, ◌+◌, ◌<◌, ◌≤◌, Bool, false, List, [], ◌∷◌, Option, Some, None, length, refl, ap, sym, ◌∙◌, subst, arith, drop, get_or}
 use Rattle.std.specs.Prelude.{slice_get, map, slice_index}
 use Rattle.std.specs.Vec.{with_item}
 use Rattle.std.proofs.Math.ListN.{set}
@@ -7,13 +7,13 @@ use Rattle.std.proofs.lemmas.Bool.{cases_lt}
 use Rattle.std.proofs.lemmas.List.{get_or-map, length-map, length-set}
 use Rattle.std.proofs.lemmas.Option.{slice_get_read}
 use Rattle.word_spec.specs.RowFiles.{from_to}
-use Rattle.term_spec.specs.Terms.{TermReading, TermNode, ChoiceNode, HasWidth, term_word}
+use Rattle.term_spec.specs.Terms.{TermReading, TermNode, HasWidth, term_word}
 use Rattle.walk_spec.specs.Unrolled as tables
 use Rattle.walk_spec.specs.Unrolled.{Carried}
 use Rattle.walk_spec.specs.Sweep as sweeps
 use Rattle.term_spec.specs.Passive.{AreNames, Denotes, Tells}
 use Rattle.frame_spec.specs.FramePoints.{AtEntry}
-use Rattle.frame_spec.specs.FrameQuestions.{Reading}
+use Rattle.frame_spec.specs.FrameQuestions.{Reading, IsReading}
 use Rattle.frame_spec.specs.FrameWalk.{UnrolledProgram, Held, WalkIsAt, held, held_if, hand, no_point, point_at, sweep_on, walk_on}
 use Rattle.frame_terms.specs.PassiveFrames.{IsNamedBelow, UnderAll, inputs_of, part_reading}
 use Rattle.term_dag.specs.declared.nodes.Term.{Term}
@@ -27,12 +27,15 @@ use Rattle.question_form.specs.declared.questions.Passive.{Passive}
 use Rattle.question_form.specs.FrameViews.{frame_unrolled_of}
 use Rattle.passify.specs.declared.sweep.Sweep.{Sweep}
 use Rattle.passify.specs.Lasts.{AreCarriedIn, CarriesIn}
+use Rattle.passify.specs.Likes.{IsLike}
 use Rattle.passify.specs.Plain.{carried, held_for}
 use Rattle.passify.specs.Sweeps.{AreWell, AreCarried, ShowsAt, term_at}
 use Rattle.passify.specs.Handled.{IsSweepOf}
 use Rattle.passify.specs.Made.{IsPassiveIn}
 use Rattle.passify.specs.Swept.{AreSwept, IsPassed, LeaveRoom, ShowsAll}
 use Rattle.passify.proofs.Inputs.{named_on}
+use Rattle.passify.proofs.Likes.{like_next, like_on}
+use Rattle.passify.proofs.Pointed.{own_keeps}
 use Rattle.passify.proofs.Lines.{drop_here, drop_all}
 use Rattle.passify.proofs.Pushed.{met_bit, other_default}
 use Rattle.passify.proofs.Standing.{framed_length}
@@ -128,6 +131,10 @@ module _ (u : tables.UnrolledProgram) (nodes : List TermNode) (n : Names) (f : A
     memory = d.memory;
   }
 
+-- the same places are met
+met_like : {u : UnrolledProgram} {g h : Held} → IsLike u g h → (i : ℕ) → g.met i ≡ h.met i
+met_like k i = ap (λ (q : Held). q.met i) k.low
+
 -- what is carried to a place stays as the terms grow
 pub carries_on : (u : UnrolledProgram) (t : ℕ) (old new : List TermNode) (n : Names) {g l st j m : ℕ} → Grew old new g l st j m → CarriesIn u t old n →
     CarriesIn u t new n
@@ -144,12 +151,17 @@ carries_on u t old new n {g} {l} {st} {j} {m} grew k =
       };
       denotes = λ r i e met.
           let x = part_reading u r in
-          let d = k.denotes r i e met in
-          record {
-            registers = λ i w. word_keeps grew x (slice_index (names_of n).registers i) (h.words i w).0 ∙ d.registers i w;
-            flags = λ i w. word_keeps grew x (slice_index (names_of n).flags i) (h.bits i w).0 ∙ d.flags i w;
-            memory = ap (λ v. v.bytes) (grew.keeps x (names_of n).memory h.memory.0) ∙ d.memory;
-          };
+          let was = k.denotes r i e met in
+          let d = was.3 in (
+            was.0,
+            was.1,
+            was.2,
+            record {
+              registers = λ i w. word_keeps grew x (slice_index (names_of n).registers i) (h.words i w).0 ∙ d.registers i w;
+              flags = λ i w. word_keeps grew x (slice_index (names_of n).flags i) (h.bits i w).0 ∙ d.flags i w;
+              memory = ap (λ v. v.bytes) (grew.keeps x (names_of n).memory h.memory.0) ∙ d.memory;
+            },
+          );
     }
 
 pub stays_carried : (u : UnrolledProgram) (t : ℕ) (old new : List TermNode) (o : Option Names) {g l st j m : ℕ} → Grew old new g l st j m →
@@ -194,20 +206,25 @@ module _ (u : Unrolled) (t : ℕ) (old : List TermNode) (s : Sweep) (a : AreSwep
   passed_by not = record {
     well = forget_well old s t a.well;
     sweep = sweep_forgets;
+    own = own_keeps u old old s (forget s t) a.own (grew_none old) refl refl;
     named = a.named;
     room = room_past (frame_unrolled_of u) old (point_at (frame_unrolled_of u) t) (drop (t + 1) (frame_unrolled_of u).points) room;
     shows = λ r k e.
-        let x = part_reading (frame_unrolled_of u) r in
-        subst (λ (n : ℕ). ShowsAll old (forget s t) n x (held (frame_unrolled_of u) r n)) (next t)
-        (subst (λ (h : Held). ShowsAll old (forget s t) (suc t) x h)
-        (sym (held_next (frame_unrolled_of u) r t ∙ passed (frame_unrolled_of u) r t (held (frame_unrolled_of u) r t) (not r k e)))
-        (forget_all old s t x (held (frame_unrolled_of u) r t) (a.shows r k e)));
+        let f = frame_unrolled_of u in
+        let x = part_reading f r in
+        let q = a.shows r k e in
+        let same : held f r (t + 1) ≡ held f r t = ap (held f r) (sym (next t)) ∙ held_next f r t ∙ passed f r t (held f r t) (not r k e) in (
+          q.0,
+          subst (λ (y : Held). IsLike f q.0 y) (sym same) q.1,
+          subst (λ (n : ℕ). ShowsAll old (forget s t) n x q.0) (next t) (forget_all old s t x q.0 q.2),
+        );
   }
 
   -- a place that has no terms is not met
   pub none_met : slice_get s.states.items t ≡ Some None → UnderAll (frame_unrolled_of u) (λ r. (held (frame_unrolled_of u) r t).met t ≡ false)
   none_met e r k p = elim (truth ((held (frame_unrolled_of u) r t).met t)) [
-    | inl m ↦ (let c = (a.shows r k p).shows.carries t (omega arith) place m in absurd (no c.names (sym e ∙ c.is)))
+    | inl m ↦ (let q = a.shows r k p in
+        let c = q.2.shows.carries t (omega arith) place (met_like q.1 t ∙ m) in absurd (no c.names (sym e ∙ c.is)))
     | inr m ↦ m
   ]
     where
@@ -220,7 +237,8 @@ module _ (u : Unrolled) (t : ℕ) (old : List TermNode) (s : Sweep) (a : AreSwep
   zero_met met at none r k p =
       let x = part_reading (frame_unrolled_of u) r in
       let is : met.0 ≡ term_at s.met.items t = ap (λ q. q.0) (at ∙ other_default s.met.items t met (record { 0 = 0 }) place) in
-      bit_false ((held (frame_unrolled_of u) r t).met t) (sym ((a.shows r k p).shows.mets t place) ∙ ap (term_word x old) (sym is) ∙ none x)
+      let q = a.shows r k p in
+      sym (met_like q.1 t) ∙ bit_false (q.0.met t) (sym (q.2.shows.mets t place) ∙ ap (term_word x old) (sym is) ∙ none x)
 
   -- the terms of a place are what is carried to it
   pub carried_there : (n : Names) → slice_get s.states.items t ≡ Some (Some n) → CarriesIn (frame_unrolled_of u) t old n
@@ -232,10 +250,14 @@ module _ (u : Unrolled) (t : ℕ) (old : List TermNode) (s : Sweep) (a : AreSwep
         names = names_for (inputs_of (frame_unrolled_of u)) old n f terms.names;
         denotes = λ r i e met.
             let x = part_reading (frame_unrolled_of u) r in
-            let h = held (frame_unrolled_of u) r t in
-            let c = (a.shows r i e).shows.carries t (omega arith) place met in
-            denotes_for (inputs_of (frame_unrolled_of u)) old n f x (carried (h.carried t))
-            (subst (λ (q : Names). Denotes (form_of q) old x (names_of q) (carried (h.carried t))) (sym (same_names n c.names (sym has ∙ c.is))) c.denotes);
+            let k = a.shows r i e in
+            let c = k.2.shows.carries t (omega arith) place (met_like k.1 t ∙ met) in (
+              k.0.carried t,
+              ap (λ (h : Held). h.carried t) k.1.low,
+              λ none. ap (λ (h : Held). h.carried t) (k.1.exact none),
+              denotes_for (inputs_of (frame_unrolled_of u)) old n f x (carried (k.0.carried t))
+                  (subst (λ (q : Names). Denotes (form_of q) old x (names_of q) (carried (k.0.carried t))) (sym (same_names n c.names (sym has ∙ c.is))) c.denotes),
+            );
       }
 
   -- where the point is handled
@@ -244,17 +266,23 @@ module _ (u : Unrolled) (t : ℕ) (old : List TermNode) (s : Sweep) (a : AreSwep
   handled_by new z n has k = record {
     well = k.well;
     sweep = k.sweep;
-    named = named_on (frame_unrolled_of u) u.heads old new (λ m. (m ≡ ChoiceNode t) × ((point_at (frame_unrolled_of u) t).draws ≡ true))
-        (λ m i c. subst (IsNamedBelow (frame_unrolled_of u) u.heads 0) (sym c.0) (omega (arith, within, framed_length u u.points.items), c.1)) k.inputs a.named;
+    own = k.own;
+    named = named_on (frame_unrolled_of u) u.heads old new (IsNamedBelow (frame_unrolled_of u) u.heads 0) (λ m i c. c) k.inputs a.named;
     room = room_on (frame_unrolled_of u) old new (point_at (frame_unrolled_of u) t) (drop (t + 1) (frame_unrolled_of u).points) room k.grew;
     shows = λ r i e.
         let x = part_reading (frame_unrolled_of u) r in
-        let h = held (frame_unrolled_of u) r t in
-        subst (λ (q : ℕ). ShowsAll new z q x (held (frame_unrolled_of u) r q)) (next t)
-        (subst (λ (g : Held). ShowsAll new z (suc t) x g) (sym (held_next (frame_unrolled_of u) r t))
-        (k.shows r i e h (forget_all old s t x h (a.shows r i e))
-        (λ m. let c = (a.shows r i e).shows.carries t (omega arith) place m in
-        subst (λ (q : Names). Denotes (form_of q) old x (names_of q) (carried (h.carried t))) (sym (same_names n c.names (sym has ∙ c.is))) c.denotes)));
+        let f = frame_unrolled_of u in
+        let p = a.shows r i e in
+        let h = p.0 in
+        let y = k.shows r i e h (forget_all old s t x h p.2)
+        (λ m. let c = p.2.shows.carries t (omega arith) place m in
+        subst (λ (q : Names). Denotes (form_of q) old x (names_of q) (carried (h.carried t))) (sym (same_names n c.names (sym has ∙ c.is))) c.denotes) in
+        let same : held f r (t + 1) ≡ sweep_on f r t (held f r t) = ap (held f r) (sym (next t)) ∙ held_next f r t in (
+          y.0,
+          subst (λ (q : Held). IsLike f y.0 q) (sym same) (like_on f y.0 (sweep_on f r t h) (sweep_on f r t (held f r t)) y.1
+              (like_next f r t h (held f r t) p.1)),
+          subst (λ (q : ℕ). ShowsAll new z q x y.0) (next t) y.2,
+        );
   }
 
 -- when all places are handled
@@ -280,15 +308,22 @@ swept_passive u t p s of met fails steps turns above below a states = record {
     fails_bit = subst (λ (q : Term). HasWidth p.dag 1 q.0) (sym fails) a.well.fails;
     steps_bit = subst (λ (q : Term). HasWidth p.dag 1 q.0) (sym steps) a.well.steps;
     turns_bit = subst (λ (q : Term). HasWidth p.dag 1 q.0) (sym turns) a.well.turns;
-    mets = λ r k e i l. subst (λ (q : ℕ). Tells p.dag (part_reading (frame_unrolled_of u) r) q ((held (frame_unrolled_of u) r (length
-        (frame_unrolled_of u).points)).met i)) (sym (at i (within i l)))
-        ((shown r k e).shows.mets i (within i l));
-    failing = λ r k e. subst (λ (q : Term). Tells p.dag (part_reading (frame_unrolled_of u) r) q.0 (held (frame_unrolled_of u) r (length
-        (frame_unrolled_of u).points)).fails) (sym fails) (shown r k e).shows.failing;
-    stepping = λ r k e. subst (λ (q : Term). Tells p.dag (part_reading (frame_unrolled_of u) r) q.0 (held (frame_unrolled_of u) r (length
-        (frame_unrolled_of u).points)).steps) (sym steps) (shown r k e).stepping;
-    turning = λ r k e. subst (λ (q : Term). Tells p.dag (part_reading (frame_unrolled_of u) r) q.0 (held (frame_unrolled_of u) r (length
-        (frame_unrolled_of u).points)).turns) (sym turns) (shown r k e).shows.turning;
+    mets = λ r k e i l.
+        let x = part_reading (frame_unrolled_of u) r in
+        subst (λ (b : Bool). Tells p.dag x (slice_index (map (λ q. q.0) p.met.items) i) b) (met_like (like r k e) i)
+        (subst (λ (q : ℕ). Tells p.dag x q ((a.shows r k e).0.met i)) (sym (at i (within i l))) ((a.shows r k e).2.shows.mets i (within i l)));
+    failing = λ r k e.
+        let x = part_reading (frame_unrolled_of u) r in
+        subst (λ (b : Bool). Tells p.dag x p.fails.0 b) (ap (λ (h : Held). h.fails) (like r k e).low)
+        (subst (λ (q : Term). Tells p.dag x q.0 (a.shows r k e).0.fails) (sym fails) (a.shows r k e).2.shows.failing);
+    stepping = λ r k e.
+        let x = part_reading (frame_unrolled_of u) r in
+        subst (λ (b : Bool). Tells p.dag x p.steps.0 b) (ap (λ (h : Held). h.steps) (like r k e).low)
+        (subst (λ (q : Term). Tells p.dag x q.0 (a.shows r k e).0.steps) (sym steps) (a.shows r k e).2.stepping);
+    turning = λ r k e.
+        let x = part_reading (frame_unrolled_of u) r in
+        subst (λ (b : Bool). Tells p.dag x p.turns.0 b) (ap (λ (h : Held). h.turns) (like r k e).low)
+        (subst (λ (q : Term). Tells p.dag x q.0 (a.shows r k e).0.turns) (sym turns) (a.shows r k e).2.shows.turning);
   };
 }
   where
@@ -298,9 +333,9 @@ swept_passive u t p s of met fails steps turns above below a states = record {
     none : LeaveRoom (frame_unrolled_of u) p.dag []
     none = subst (LeaveRoom (frame_unrolled_of u) p.dag) (drop_all (frame_unrolled_of u).points t (omega (arith, last))) a.room
 
-    shown : UnderAll (frame_unrolled_of u) (λ r. ShowsAll p.dag s t (part_reading (frame_unrolled_of u) r) (held (frame_unrolled_of u) r (length
-        (frame_unrolled_of u).points)))
-    shown r k e = subst (λ (n : ℕ). ShowsAll p.dag s t (part_reading (frame_unrolled_of u) r) (held (frame_unrolled_of u) r n)) last (a.shows r k e)
+    like : (r : Reading) (k : IsReading r) (e : r.state.pc ≡ u.entry) →
+        IsLike (frame_unrolled_of u) (a.shows r k e).0 (held (frame_unrolled_of u) r (length (frame_unrolled_of u).points))
+    like r k e = subst (λ (n : ℕ). IsLike (frame_unrolled_of u) (a.shows r k e).0 (held (frame_unrolled_of u) r n)) last (a.shows r k e).1
 
     within : (i : ℕ) → i < length (frame_unrolled_of u).points → i < length s.met.items
     within i l = omega (arith, l, a.sweep.places, framed_length u u.points.items)

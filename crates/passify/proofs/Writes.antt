@@ -16,12 +16,10 @@ use Rattle.term_spec.specs.Passive.{Tells}
 use Rattle.term_dag.specs.Made.{Grew, IsMade, IsInterned}
 use Rattle.term_dag.proofs.Ranges.{word_fits}
 use Rattle.term_dag.proofs.Growth.{grew_on, grew_more, grew_none, grew_width, inputs_on, inputs_none, made_grew, made_inputs, interned_grew, interned_inputs}
-use Rattle.bil_terms.specs.declared.stored.Stored.{Stored}
-use Rattle.bil_terms.specs.Gathered.{IsStore}
-use Rattle.bil_terms.specs.Runs.{IsStoredBy}
 use Rattle.question_form.specs.Views.{kept_of}
 use Rattle.passify.specs.Bits.{Makes, TellsByBoth}
-use Rattle.passify.specs.Handled.{TellsKept}
+use Rattle.passify.specs.declared.spans.Span.{Span}
+use Rattle.passify.specs.Spans.{IsSpan, IsSpanned, TellsKept}
 use Rattle.passify.proofs.Kept.{truth, tells_keep, tells_some, word_keeps}
 
 -- an address is in a run
@@ -67,7 +65,7 @@ all_lie low high a n before la lh hh ln en far =
     below d r ld lr = grind (arith, nat_tests)
 
 -- one store against one run
-pub touches_far : (ns : List TermNode) (s : Stored) (low high before : ℕ) → AreTyped ns → IsStore ns s → low ≤ high → high < 2 ^ 32 → s.bytes ≡ suc before →
+pub touches_far : (ns : List TermNode) (s : Span) (low high before : ℕ) → AreTyped ns → IsSpan ns s → low ≤ high → high < 2 ^ 32 → s.bytes ≡ suc before →
     2 ^ 32 - 1 ≤ high - low + before →
     Makes ns ns 97 8 1 s.guard.0 (λ x. (g : Bool) → Tells ns x s.guard.0 g →
     Tells ns x s.guard.0 (g && list_any (lies low high) (span (term_word x ns s.address.0) s.bytes)))
@@ -86,7 +84,7 @@ touches_far ns s low high before typed store lh hh en far = record {
     and_true true = refl
     and_true false = refl
 
-pub touches_near : (a b c d e new : List TermNode) (s : Stored) (low high before first reach start distance end near t : ℕ) → AreTyped a → IsStore a s →
+pub touches_near : (a b c d e new : List TermNode) (s : Span) (low high before first reach start distance end near t : ℕ) → AreTyped a → IsSpan a s →
     low ≤ high →
     high < 2 ^ 32 → s.bytes ≡ suc before →
     first ≡ sub 32 low before → reach ≡ high - low + before → IsInterned a b (ConstantNode 32 first) start →
@@ -130,8 +128,8 @@ touches_near a b c d e new s low high before first reach start distance end near
     }
 
 -- what is stored stays so
-pub store_keeps : (old new : List TermNode) (g l st j n : ℕ) (s : Stored) → Grew old new g l st j n → IsStore old s → IsStore new s
-store_keeps old new g l st j n s grew h = record {
+pub span_keeps : (old new : List TermNode) (g l st j n : ℕ) (s : Span) → Grew old new g l st j n → IsSpan old s → IsSpan new s
+span_keeps old new g l st j n s grew h = record {
   guard = grew_width old new g l st j n 1 s.guard.0 grew h.guard;
   address = grew_width old new g l st j n 32 s.address.0 grew h.address;
   some = h.some;
@@ -167,7 +165,7 @@ more_by false true a b = refl
 more_by false false a b = refl
 
 -- one store against some runs: a bit was 1, or some byte of the runs is stored
-abbrev pub Touches : (old new : List TermNode) → Stored → (runs : List AddressRun) → (before t : ℕ) → TermReading → Type 0
+abbrev pub Touches : (old new : List TermNode) → Span → (runs : List AddressRun) → (before t : ℕ) → TermReading → Type 0
 Touches old new s runs before t x =
     (p g : Bool) → Tells old x before p → Tells old x s.guard.0 g →
     Tells new x t (p || (g && list_any (is_in runs) (span (term_word x old s.address.0) s.bytes)))
@@ -176,7 +174,7 @@ none_in : (xs : List ℕ) → list_any (is_in []) xs ≡ false
 none_in [] = refl
 none_in (x ∷ xs) = none_in xs
 
-pub touches_none : (ns : List TermNode) (s : Stored) (before : ℕ) → AreTyped ns → HasWidth ns 1 before →
+pub touches_none : (ns : List TermNode) (s : Span) (before : ℕ) → AreTyped ns → HasWidth ns 1 before →
     Makes ns ns (98 * 0) (10 * 0) 1 before (Touches ns ns s [] before before)
 touches_none ns s before typed w = record {
   grew = grew_none ns;
@@ -192,7 +190,7 @@ touches_none ns s before typed w = record {
     nothing false false = refl
 
 -- one run more
-touches_next : (old cur mid new : List TermNode) (s : Stored) (runs : List AddressRun) (k : AddressRun) (i before left hit t : ℕ) → IsStore old s →
+touches_next : (old cur mid new : List TermNode) (s : Span) (runs : List AddressRun) (k : AddressRun) (i before left hit t : ℕ) → IsSpan old s →
     Makes old cur (98 * i) (10 * i) 1 left (Touches old cur s runs before left) →
     Makes cur mid 97 8 1 hit (λ x. (g : Bool) → Tells cur x s.guard.0 g →
     Tells mid x hit (g && list_any (lies k.low k.high) (span (term_word x cur s.address.0) s.bytes))) →
@@ -221,9 +219,9 @@ touches_next old cur mid new s runs k i before left hit t store m1 m2 m3 =
           ∙ ap (λ (q : Bool). p || (g && q)) (sym (any_both (is_in (runs ++ k ∷ [])) (is_in runs) (lies k.low k.high) bytes (is_in_more runs k))));
     }
 
-pub touches_more : (old cur mid new : List TermNode) (s : Stored) (kept : List (ℕ × ℕ)) (i : ℕ) (k : ℕ × ℕ) (before left hit t : ℕ) → i < length kept →
+pub touches_more : (old cur mid new : List TermNode) (s : Span) (kept : List (ℕ × ℕ)) (i : ℕ) (k : ℕ × ℕ) (before left hit t : ℕ) → i < length kept →
     k ≡ get_or kept i k →
-    IsStore old s →
+    IsSpan old s →
     Makes old cur (98 * i) (10 * i) 1 left (Touches old cur s (map kept_of (take i kept)) before left) →
     Makes cur mid 97 8 1 hit (λ x. (g : Bool) → Tells cur x s.guard.0 g →
     Tells mid x hit (g && list_any (lies k.0 k.1) (span (term_word x cur s.address.0) s.bytes))) →
@@ -237,7 +235,7 @@ touches_more old cur mid new s kept i k before left hit t within at store m1 m2 
     (touches_next old cur mid new s (map kept_of (take i kept)) (kept_of k) i before left hit t store m1 m2 m3)
 
 -- all runs
-pub touches_all : (old new : List TermNode) (s : Stored) (kept : List (ℕ × ℕ)) (i before t : ℕ) → length kept ≤ i → i ≤ length kept →
+pub touches_all : (old new : List TermNode) (s : Span) (kept : List (ℕ × ℕ)) (i before t : ℕ) → length kept ≤ i → i ≤ length kept →
     Makes old new (98 * i) (10 * i) 1 t (Touches old new s (map kept_of (take i kept)) before t) →
     Makes old new (98 * length kept) (10 * length kept) 1 t (Touches old new s (map kept_of kept) before t)
 touches_all old new s kept i before t above below m =
@@ -254,11 +252,15 @@ run_at kept i k runs within at = (runs (kept_of k) (
       (kept_of k) within ∙ ap kept_of (sym at),
 )).0
 
--- a store stores a kept byte
-abbrev pub keeps_hit : List TermNode → TermReading → List AddressRun → Stored → Bool
-keeps_hit ns x runs s = (term_word x ns s.guard.0 == 1) && list_any (is_in runs) (span (term_word x ns s.address.0) s.bytes)
+-- some byte of a span, under a guard that is 1, passes a test
+abbrev pub has_hit : List TermNode → TermReading → (ℕ → Bool) → Span → Bool
+has_hit ns x f s = (term_word x ns s.guard.0 == 1) && list_any f (span (term_word x ns s.address.0) s.bytes)
 
-bit_test : (b : Bool) (n : ℕ) → n ≡ bit b → b ≡ (n == 1)
+-- it is kept
+abbrev pub keeps_hit : List TermNode → TermReading → List AddressRun → Span → Bool
+keeps_hit ns x runs s = has_hit ns x (is_in runs) s
+
+pub bit_test : (b : Bool) (n : ℕ) → n ≡ bit b → b ≡ (n == 1)
 bit_test true n e = sym (ap (λ (z : ℕ). z == 1) e)
 bit_test false n e = sym (ap (λ (z : ℕ). z == 1) e)
 
@@ -274,9 +276,9 @@ writes_none old new t runs m = record {
 }
 
 -- one store more
-pub writes_more : (old cur new : List TermNode) (stored : List Stored) (runs : List AddressRun) (i : ℕ) (s : Stored) (left t : ℕ) → i < length stored →
+pub writes_more : (old cur new : List TermNode) (stored : List Span) (runs : List AddressRun) (i : ℕ) (s : Span) (left t : ℕ) → i < length stored →
     s ≡ get_or stored i s →
-    IsStore old s → AreTyped old →
+    IsSpan old s → AreTyped old →
     Makes old cur (98 * (i * length runs)) (1 + 10 * (i * length runs)) 1 left (λ x. Tells cur x left (list_any (keeps_hit old x runs) (take i stored))) →
     Makes cur new (98 * length runs) (10 * length runs) 1 t (Touches cur new s runs left t) →
     Makes old new (98 * ((i + 1) * length runs)) (1 + 10 * ((i + 1) * length runs)) 1 t
@@ -300,7 +302,7 @@ writes_more old cur new stored runs i s left t within at store typed m1 m2 =
           ∙ ap (λ (z : ℕ). bit (done || (guard.0 && list_any (is_in runs) (span z s.bytes)))) same
           ∙ ap (λ (z : Bool). bit (done || (z && list_any (is_in runs) (span (term_word x old s.address.0) s.bytes))))
           (bit_test guard.0 (term_word x old s.guard.0) guard.1)
-          ∙ ap (λ (z : Stored). bit (done || keeps_hit old x runs z)) at ∙ ap bit (sym (list_any_more (keeps_hit old x runs) stored i s within));
+          ∙ ap (λ (z : Span). bit (done || keeps_hit old x runs z)) at ∙ ap bit (sym (list_any_more (keeps_hit old x runs) stored i s within));
     }
   where
     more : (i n : ℕ) → (i + 1) * n ≡ i * n + n
@@ -328,37 +330,37 @@ by_one : (n : ℕ) → n ≡ 1 → (n == 1) ≡ true
 by_one n e = grind (arith, nat_tests)
 
 -- a test that some element passes
-has_any : {X : Type 0} → (f : X → Bool) (xs : List X) (x : X) → Contains xs x → f x ≡ true → list_any f xs ≡ true
+pub has_any : {X : Type 0} → (f : X → Bool) (xs : List X) (x : X) → Contains xs x → f x ≡ true → list_any f xs ≡ true
 has_any f xs x c h = elim (truth (list_any f xs)) [ inl e ↦ e | inr e ↦ absurd (not_any f xs e x c h) ]
 
-same_truth : (p q : Bool) → (p ≡ true → q ≡ true) → (q ≡ true → p ≡ true) → p ≡ q
+pub same_truth : (p q : Bool) → (p ≡ true → q ≡ true) → (q ≡ true → p ≡ true) → p ≡ q
 same_truth true q f g = sym (f refl)
 same_truth false true f g = g refl
 same_truth false false f g = refl
 
--- a kept byte is among those stored where some store stores one
-kept_stored : (ns : List TermNode) (x : TermReading) (stored : List Stored) (runs : List AddressRun) (bytes : List ℕ) →
-    ((a : ℕ) → Contains bytes a ↔ IsStoredBy ns x stored a) →
-    list_any (keeps_hit ns x runs) stored ≡ list_any (is_in runs) bytes
-kept_stored ns x stored runs bytes same = same_truth (list_any (keeps_hit ns x runs) stored) (list_any (is_in runs) bytes) on back
+-- a byte that passes is among those of the spans where some span has one
+pub hits_are : (ns : List TermNode) (x : TermReading) (f : ℕ → Bool) (spans : List Span) (bytes : List ℕ) →
+    ((a : ℕ) → Contains bytes a ↔ IsSpanned ns x spans a) →
+    list_any (has_hit ns x f) spans ≡ list_any f bytes
+hits_are ns x f spans bytes same = same_truth (list_any (has_hit ns x f) spans) (list_any f bytes) on back
   where
-    on : list_any (keeps_hit ns x runs) stored ≡ true → list_any (is_in runs) bytes ≡ true
+    on : list_any (has_hit ns x f) spans ≡ true → list_any f bytes ≡ true
     on h =
-        let s = any_is (keeps_hit ns x runs) stored h in
-        let both = both_are (term_word x ns s.0.guard.0 == 1) (list_any (is_in runs) (span (term_word x ns s.0.address.0) s.0.bytes)) s.2 in
-        let a = any_is (is_in runs) (span (term_word x ns s.0.address.0) s.0.bytes) both.1 in
-        has_any (is_in runs) bytes a.0 ((same a.0).1 (s.0, s.1, one_by (term_word x ns s.0.guard.0) both.0, a.1)) a.2
+        let s = any_is (has_hit ns x f) spans h in
+        let both = both_are (term_word x ns s.0.guard.0 == 1) (list_any f (span (term_word x ns s.0.address.0) s.0.bytes)) s.2 in
+        let a = any_is f (span (term_word x ns s.0.address.0) s.0.bytes) both.1 in
+        has_any f bytes a.0 ((same a.0).1 (s.0, s.1, one_by (term_word x ns s.0.guard.0) both.0, a.1)) a.2
 
-    back : list_any (is_in runs) bytes ≡ true → list_any (keeps_hit ns x runs) stored ≡ true
+    back : list_any f bytes ≡ true → list_any (has_hit ns x f) spans ≡ true
     back h =
-        let a = any_is (is_in runs) bytes h in
+        let a = any_is f bytes h in
         let s = (same a.0).0 a.1 in
-        has_any (keeps_hit ns x runs) stored s.0 s.1
-        (are_both (term_word x ns s.0.guard.0 == 1) (list_any (is_in runs) (span (term_word x ns s.0.address.0) s.0.bytes))
+        has_any (has_hit ns x f) spans s.0 s.1
+        (are_both (term_word x ns s.0.guard.0 == 1) (list_any f (span (term_word x ns s.0.address.0) s.0.bytes))
         (by_one (term_word x ns s.0.guard.0) s.2)
-        (has_any (is_in runs) (span (term_word x ns s.0.address.0) s.0.bytes) a.0 s.3 a.2))
+        (has_any f (span (term_word x ns s.0.address.0) s.0.bytes) a.0 s.3 a.2))
 
-writes_end : (old new : List TermNode) (stored : List Stored) (runs : List AddressRun) (t : ℕ) →
+writes_end : (old new : List TermNode) (stored : List Span) (runs : List AddressRun) (t : ℕ) →
     Makes old new (98 * (length stored * length runs)) (1 + 10 * (length stored * length runs)) 1 t
     (λ x. Tells new x t (list_any (keeps_hit old x runs) stored)) →
     TellsKept old new stored runs t
@@ -367,16 +369,16 @@ writes_end old new stored runs t m = record {
   inputs = m.inputs;
   typed = m.typed;
   width = m.width;
-  tells = λ x r bytes same. m.holds x r ∙ ap bit (kept_stored old x stored runs bytes same);
+  tells = λ x r bytes same. m.holds x r ∙ ap bit (hits_are old x (is_in runs) stored bytes same);
 }
 
 -- all stores
-pub writes_all : (old new : List TermNode) (stored : List Stored) (runs : List AddressRun) (i t : ℕ) → length stored ≤ i → i ≤ length stored →
+pub writes_all : (old new : List TermNode) (stored : List Span) (runs : List AddressRun) (i t : ℕ) → length stored ≤ i → i ≤ length stored →
     Makes old new (98 * (i * length runs)) (1 + 10 * (i * length runs)) 1 t (λ x. Tells new x t (list_any (keeps_hit old x runs) (take i stored))) →
     TellsKept old new stored runs t
 writes_all old new stored runs i t above below m =
     writes_end old new stored runs t
-    (subst (λ (z : List Stored). Makes old new (98 * (length stored * length runs)) (1 + 10 * (length stored * length runs)) 1 t
+    (subst (λ (z : List Span). Makes old new (98 * (length stored * length runs)) (1 + 10 * (length stored * length runs)) 1 t
     (λ x. Tells new x t (list_any (keeps_hit old x runs) z))) (take-length stored)
     (subst (λ (n : ℕ). Makes old new (98 * (n * length runs)) (1 + 10 * (n * length runs)) 1 t
     (λ x. Tells new x t (list_any (keeps_hit old x runs) (take n stored))))

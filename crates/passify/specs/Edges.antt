@@ -10,18 +10,21 @@ use Rattle.term_spec.specs.Passive.{Tells}
 use Rattle.walk_spec.specs.Prices.{line_steps}
 use Rattle.frame_spec.specs.Frames.{Content, content_at}
 use Rattle.frame_spec.specs.FrameWalk.{GoesOn, PointExit, UnrolledProgram, walk_to}
+use Rattle.frame_spec.specs.FrameUnrolling.{own_of}
+use Rattle.frame_laws.specs.FramePrices.{exit_lines}
 use Rattle.notes_value.specs.NoteViews.{notes_of}
 use Rattle.question_form.specs.declared.unrolled.Aim.{Aim}
 use Rattle.question_form.specs.declared.unrolled.Aim.TheVariants.{OnTo, IntoHead, Outward, OverLast}
 use Rattle.question_form.specs.declared.unrolled.Edge.{Edge}
 use Rattle.question_form.specs.declared.unrolled.Unrolled.{Unrolled}
-use Rattle.question_form.specs.FrameViews.{aim_of, checks_between, edge_of}
+use Rattle.question_form.specs.FrameViews.{aim_of, checks_between, edge_of, frame_unrolled_of, own_contract}
 use Rattle.question_form.specs.Forms.{IsAimFormed}
 use Rattle.term_names.specs.declared.names.Names.{Names}
 use Rattle.term_names.specs.Views.{form_of}
 use Rattle.note_terms.specs.declared.Now.{Now}
 use Rattle.passify.specs.declared.sweep.Sweep.{Sweep}
 use Rattle.passify.specs.Plain.{plain}
+use Rattle.passify.specs.Spans.{is_own}
 use Rattle.passify.specs.Sweeps.{Steps, bits_of, terms_of}
 use Rattle.passify.specs.Exits.{IsPending, Narrows}
 use Rattle.passify.specs.Situations.{Situation, IsThere, goes, said}
@@ -42,14 +45,14 @@ IsLater from Outward = Unit {0}
 IsLater from (IntoHead at asserts) = Unit {0}
 IsLater from OverLast = Unit {0}
 
--- what the ensure lines say
-abbrev pub ensured : Unrolled → List Expr
-ensured u = map (λ l. l.says) (notes_of u.notes.now).ensures
+-- the lines that are judged where the frame is left
+abbrev pub lines_out : Unrolled → List Expr
+lines_out u = exit_lines (frame_unrolled_of u)
 
 -- the lines that are judged where an aim leads
 abbrev pub lines_to : Unrolled → Aim → List Expr
 lines_to u (OnTo j) = []
-lines_to u Outward = ensured u
+lines_to u Outward = lines_out u
 lines_to u (IntoHead at asserts) = said (checks_between u asserts)
 lines_to u OverLast = []
 
@@ -70,10 +73,12 @@ pub record CanGo (u : Unrolled) (places : ℕ) (n : Names) (aim : Aim) : Type 0 
   pub formed : IsAimFormed u aim
   pub reads : AreRead n (lines_to u aim)
 
--- a frame without a contract of its own is left by the ensure lines of the notes
+-- a frame is left by the ensure lines of the notes, or by what its own contract gives and may change
 pub record IsLeftBy (u : Unrolled) (p : UnrolledProgram) : Type 0 where
-  pub own : p.own ≡ None
+  pub own : p.own ≡ own_of (own_contract u)
   pub ensures : p.ensures ≡ (notes_of u.notes.now).ensures
+  pub registers : p.registers ≡ (frame_unrolled_of u).registers
+  pub flags : p.flags ≡ (frame_unrolled_of u).flags
 
 -- the walk goes on by an aim to the next state, which terms are where a bit is 1
 pub record Follows (u : Unrolled) (nodes : List TermNode) (s : Sweep) (next : Now) (aim : Aim) (from : ℕ) (x : TermReading) (w : Walk) (b : Bool) : Type 0 where
@@ -86,7 +91,7 @@ pub record Follows (u : Unrolled) (nodes : List TermNode) (s : Sweep) (next : No
 -- what it costs in gates to go on by an aim
 abbrev pub aim_gates : Unrolled → Names → Aim → ℕ
 aim_gates u n (OnTo j) = bits_of n + 1
-aim_gates u n Outward = sum_by line_price (ensured u)
+aim_gates u n Outward = sum_by line_price (lines_out u) + is_own (own_contract u) * (bits_of n + terms_of n + 1)
 aim_gates u n (IntoHead at asserts) = sum_by line_price (said (checks_between u asserts))
 aim_gates u n OverLast = 1
 
@@ -104,7 +109,7 @@ aim_joins OverLast = 0
 -- in nodes
 abbrev pub aim_nodes : Unrolled → Names → Aim → ℕ
 aim_nodes u n (OnTo j) = 2 * terms_of n + 2
-aim_nodes u n Outward = 4 * line_steps (ensured u)
+aim_nodes u n Outward = 4 * line_steps (lines_out u) + is_own (own_contract u) * (4 * terms_of n + 1)
 aim_nodes u n (IntoHead at asserts) = 1 + 4 * line_steps (said (checks_between u asserts))
 aim_nodes u n OverLast = 2
 

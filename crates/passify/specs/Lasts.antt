@@ -10,6 +10,9 @@ use Rattle.frame_terms.specs.PassiveFrames as parts
 use Rattle.frame_terms.specs.PassiveFrames.{inputs_of, part_reading}
 use Rattle.term_names.specs.declared.names.Names.{Names}
 use Rattle.term_names.specs.Views.{AreFor, names_of}
+use Rattle.frame_spec.specs.Frames.{Content}
+use Rattle.low_memory.specs.LowWalks.{low_content}
+use Rattle.passify.specs.Likes.{HasNoSteps}
 use Rattle.passify.specs.Plain.{carried}
 
 -- The terms are for the program's registers and flags. Under every reading under which the walk comes to the place they denote what it carries there.
@@ -27,12 +30,14 @@ AreCarriedTo u place nodes (Some n) = CarriesTo u place nodes n
 abbrev pub HaveStates : UnrolledProgram → List TermNode → Type 0
 HaveStates u nodes = (i : ℕ) → i < length u.points → (names : Option Names) × AreCarriedTo u i nodes names
 
--- The terms are for the frame's registers and flags. Under every reading under which a walk comes to the place they denote what it carries there.
+-- The terms are for the frame's registers and flags. Under every reading under which a walk comes to the place they denote what it carries there; behind a
+-- contract step but for memory that no machine sees.
 pub record CarriesIn (u : frames.UnrolledProgram) (place : ℕ) (nodes : List TermNode) (n : Names) : Type 0 where
   pub form : AreFor (inputs_of u) n
   pub names : AreNames (inputs_of u) nodes (names_of n)
   pub denotes : parts.UnderAll u (λ r. (frames.held u r place).met place ≡ true →
-      Denotes (inputs_of u) nodes (part_reading u r) (names_of n) (carried ((frames.held u r place).carried place)))
+      (c : Content) × (low_content c ≡ low_content ((frames.held u r place).carried place)) × (HasNoSteps u → c ≡ (frames.held u r place).carried place)
+      × Denotes (inputs_of u) nodes (part_reading u r) (names_of n) (carried c))
 
 -- terms of what a walk of the frame carries to the place; where there are none, no walk comes to it
 abbrev pub AreCarriedIn : frames.UnrolledProgram → (place : ℕ) → List TermNode → Option Names → Type 0

@@ -10,3 +10,7 @@ pub mod Rows
 pub mod Situations
 pub mod Sweeps
 pub mod Swept
+pub mod Likes
+pub mod Spans
+pub mod Calls
+pub mod Changes

@@ -13,6 +13,10 @@ use Rattle.frame_spec.specs.FrameWalk.{Check, UnrolledProgram, false_check}
 abbrev pub carried : Content → Carried
 carried c = record { regs = c.regs; flags = c.flags; mem = c.mem }
 
+-- and back
+abbrev pub content_with : Carried → Content
+content_with c = record { regs = c.regs; flags = c.flags; mem = c.mem }
+
 -- an arrival at a head, by the first of its lines that is false
 abbrev pub arrived : Option Check → Walk
 arrived None = WalkExits

@@ -5,14 +5,14 @@ use Rattle.bilv_spec.specs.Notes.{Expr, value, is_true}
 use Rattle.bilv_spec.specs.Points.{line_price, bytes_loaded}
 use Rattle.word_spec.specs.Memory.{endian}
 use Rattle.word_spec.specs.State.{State}
-use Rattle.term_spec.specs.Terms.{TermReading, InRange, TermNode, AreTyped, HasWidth, term_gates, term_loads, term_stores, term_joins}
+use Rattle.term_spec.specs.Terms.{TermReading, InRange, TermNode, AreTyped, HasWidth, term_word, term_gates, term_loads, term_stores, term_joins}
 use Rattle.walk_spec.specs.Unrolled.{Carried, state_at}
 use Rattle.walk_spec.specs.Prices.{line_steps}
 use Rattle.term_spec.specs.Passive.{AreNames, Denotes, Tells}
 use Rattle.frame_spec.specs.FramePoints.{says_of}
 use Rattle.frame_spec.specs.FrameQuestions.{Reading}
 use Rattle.frame_spec.specs.FrameWalk.{Check, Held, Root, UnrolledProgram, is_assumed, point_at, root_content}
-use Rattle.frame_laws.specs.FramePrices.{variables_of}
+use Rattle.frame_laws.specs.FramePrices.{begin_lines, own_lines, own_writes, variables_of}
 use Rattle.frame_terms.specs.PassiveFrames.{AreNamedBelow, UnderAll, part_reading}
 use Rattle.term_dag.specs.Made.{Grew, InputsFrom}
 use Rattle.term_names.specs.declared.names.Names.{Names}
@@ -26,6 +26,8 @@ use Rattle.question_form.specs.FrameViews.{check_at, frame_unrolled_of}
 use Rattle.passify.specs.declared.sweep.Sweep.{Sweep}
 use Rattle.passify.specs.Handled.{IsSweepOf}
 use Rattle.passify.specs.Rows.{is_of_head}
+use Rattle.passify.specs.declared.spans.Span.{Span}
+use Rattle.passify.specs.Spans.{AreOwn, IsSpan, addresses_of, own_places}
 use Rattle.passify.specs.Sweeps.{AreTermsOf, AreWell}
 use Rattle.passify.specs.Swept.{ShowsAll}
 
@@ -67,13 +69,13 @@ pub record AreHeadNames (u : Unrolled) (old new : List TermNode) (entry n : Name
 abbrev pub lines_of : List Root → List Expr
 lines_of roots = flat_map (λ x. says_of x.assumes) roots
 
--- The terms are within what all roots may cost and what there is before them, but for what some roots may.
+-- The terms are within what may be evaluated where segments begin and what there is before it, but for what some roots may.
 pub record LeaveRootRoom (u : UnrolledProgram) (nodes : List TermNode) (others : List Root) : Type 0 where
-  pub gates : term_gates nodes + sum_by line_price (lines_of others) ≤ sum_by line_price (lines_of u.roots)
-  pub loads : term_loads nodes + sum_by bytes_loaded (lines_of others) ≤ sum_by bytes_loaded (lines_of u.roots)
+  pub gates : term_gates nodes + sum_by line_price (lines_of others) ≤ sum_by line_price (begin_lines u)
+  pub loads : term_loads nodes + sum_by bytes_loaded (lines_of others) ≤ sum_by bytes_loaded (begin_lines u)
   pub stores : term_stores nodes ≤ 0
   pub joins : term_joins nodes ≤ 0
-  pub few : length nodes + (length others + 4 * line_steps (lines_of others)) ≤ 2 * variables_of u + 3 + (length u.roots + 4 * line_steps (lines_of u.roots))
+  pub few : length nodes + (length others + 4 * line_steps (lines_of others)) ≤ 2 * variables_of u + 3 + (length u.roots + 4 * line_steps (begin_lines u))
 
 -- Segments have been begun at the first roots: what is kept are terms of the frame, with those of the head's state and a bit that is 1 beside them, with
 -- room for
@@ -81,6 +83,7 @@ pub record LeaveRootRoom (u : UnrolledProgram) (nodes : List TermNode) (others :
 pub record ArePlanted (u : Unrolled) (done : ℕ) (nodes : List TermNode) (s : Sweep) (head : Names) (yes : ℕ) : Type 0 where
   pub well : AreWell nodes s
   pub sweep : IsSweepOf u s
+  pub own : AreOwn u nodes s
   pub named : AreNamedBelow (frame_unrolled_of u) u.heads 0 nodes
   pub room : LeaveRootRoom (frame_unrolled_of u) nodes (drop done (frame_unrolled_of u).roots)
   pub head_terms : AreTermsOf s.entry nodes head
@@ -102,3 +105,13 @@ pub record AreAssumed (old new : List TermNode) (big : Bool) (lines : List Expr)
   pub width : HasWidth new 1 t
   pub tells : (x : TermReading) → InRange x → Tells old x yes true → (c d : Carried) (at from : ℕ) → IsStateOf old x now c at → IsStateOf old x entry d from →
       Tells new x t (are_true big lines (state_at c at) (state_at d from))
+
+-- The spans are what the frame's own contract may write, by the state at entry; none where it has none. They are within what those lines may cost.
+pub record AreOwnSpans (u : Unrolled) (old new : List TermNode) (entry : Names) (pc : ℕ) (spans : List Span) : Type 0 where
+  pub grew : let f = frame_unrolled_of u in Grew old new (sum_by line_price (own_lines f)) (sum_by bytes_loaded (own_lines f)) 0 0 (4 * line_steps (own_lines f))
+  pub inputs : InputsFrom old new (λ m. ⊥)
+  pub typed : AreTyped new
+  pub each : (k : Span) → Contains spans k → IsSpan new k
+  pub count : length spans ≡ own_writes (frame_unrolled_of u)
+  pub written : (x : TermReading) → InRange x → (c : Carried) (at : ℕ) → Denotes (form_of entry) old x (names_of entry) c → term_word x old pc ≡ at →
+      addresses_of new x spans ≡ own_places u (state_at c at)

@@ -1,8 +1,8 @@
 -- The exits of a point under a reading.
-use Rattle.std.specs.Prelude.{ℕ, ◌≡◌, ◌≤◌, ◌+◌, ◌*◌, ◌&&◌, Bool, not, false, List, ◌∷◌, ◌++◌, map, filter, sum_by}
+use Rattle.std.specs.Prelude.{ℕ, ◌≡◌, ◌≤◌, ◌+◌, ◌*◌, ◌&&◌, Bool, not, List, ◌∷◌, ◌++◌, map, filter, sum_by}
 use Rattle.word_spec.specs.Memory.{endian}
 use Rattle.word_spec.specs.State.{State}
-use Rattle.machine_spec.specs.Endings.{EnsureFails, JumpFails}
+use Rattle.machine_spec.specs.Endings.{JumpFails}
 use Rattle.bilv_spec.specs.Notes.{Expr, Number, NoteLine, value, is_true}
 use Rattle.bilv_spec.specs.Run.{false_line}
 use Rattle.bilv_spec.specs.Points.{line_price, bytes_loaded}
@@ -10,7 +10,7 @@ use Rattle.term_spec.specs.Terms.{TermReading, InRange, TermNode, HasWidth, term
 use Rattle.walk_spec.specs.Unrolled.{WalkFails, carried_of, state_at}
 use Rattle.walk_spec.specs.Sweep.{Held, held_if, hand}
 use Rattle.walk_spec.specs.Prices.{line_steps}
-use Rattle.frame_spec.specs.Frames.{OfStep}
+use Rattle.frame_spec.specs.Frames.{GivesFails}
 use Rattle.frame_spec.specs.FrameWalk as frames
 use Rattle.frame_spec.specs.FrameWalk.{Check, UnrolledProgram, Leaving, PointExit, first_aim, walk_to, out_by}
 use Rattle.question_form.specs.declared.unrolled.Unrolled.{Unrolled}
@@ -99,10 +99,10 @@ checks_of u skips index = filter (λ x. not (skips && x.invariant)) (map (check_
 abbrev pub goes_checks : List Check → Situation → List PointExit → Held → Held
 goes_checks checks S tail h = goes S (map frames.FalseCheck checks ++ tail) h
 
--- what is held in the end where the function is left, by the ensure lines
-abbrev pub goes_out_by : List NoteLine → Situation → List PointExit → Held → Held
-goes_out_by lines S tail h =
-    hand (plain S.program S.entry (out_by (false_line S.program.endian lines S.next S.entry) (λ n. OfStep (EnsureFails n)) false)) h
+-- what is held in the end where the frame is left, by lines, and by whether something changed that may not
+abbrev pub goes_out_by : (Situation → Bool) → List NoteLine → Situation → List PointExit → Held → Held
+goes_out_by changed lines S tail h =
+    hand (plain S.program S.entry (out_by (false_line S.program.endian lines S.next S.entry) GivesFails (changed S))) h
 
 -- no line
 abbrev pub no_line : NoteLine

@@ -56,13 +56,14 @@ terms_of n = length n.registers.items + length n.flags.items + 1
 abbrev pub bits_of : Names → ℕ
 bits_of n = 32 * length n.registers.items + length n.flags.items
 
--- the same entry state, as many places, and no event of a segment from a head
+-- the same entry state and what may be written by it, as many places, and no event of a segment from a head
 pub record AreLike (s z : Sweep) : Type 0 where
   pub entry : z.entry ≡ s.entry
   pub pc : z.pc ≡ s.pc
   pub at : z.at ≡ s.at
   pub places : length z.met.items ≡ length s.met.items
   pub steps : z.steps ≡ s.steps
+  pub own : z.own ≡ s.own
 
 -- A step keeps what is kept as terms of the same places, by new terms within so many gates, byte loads, byte stores, joins and nodes, and no other inputs than
 -- some.

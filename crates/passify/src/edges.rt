@@ -3,17 +3,21 @@
 ghost use Rattle.std.specs.Prelude.{◌≡◌, ◌≤◌, ◌<◌, ◌+◌, ◌*◌, ◌==◌, IfOk, Contains, [], length};
 ghost use Rattle.term_spec.specs.Terms.{AreTyped, HasWidth, term_word};
 ghost use Rattle.term_spec.specs.Passive.{Tells};
-ghost use Rattle.question_form.specs.declared.unrolled.Aim.TheVariants.{IntoHead};
+ghost use Rattle.frame_terms.specs.PassiveFrames.{IsWalkable};
+ghost use Rattle.question_form.specs.FrameViews.{frame_unrolled_of};
+ghost use Rattle.question_form.specs.declared.unrolled.Aim.TheVariants.{IntoHead, Outward};
 ghost use Rattle.question_form.specs.declared.unrolled.Edge.{Edge};
 ghost use Rattle.question_form.specs.Forms.{IsFormed};
 ghost use Rattle.passify.specs.Bits.{Makes, TellsByBoth};
 ghost use Rattle.passify.specs.Edges.{CanGo, EdgesTried, Follows, TakesEdge, TellsEdge, TellsWay, aim_gates, aim_joins, aim_loads, aim_nodes, edge_word};
 ghost use Rattle.passify.specs.Exits.{Narrows, Tries};
+ghost use Rattle.passify.specs.Handled.{IsSweepOf};
 ghost use Rattle.passify.specs.Sweeps.{AreTermsOf, AreWell, Hands, Steps};
 
 use crate::bits::{both, constant, turned};
 use crate::exits::{asserts, judged, split};
-use crate::sweep::{Sweep, arrive, turn};
+use crate::own::changed;
+use crate::sweep::{Sweep, arrive, fail, turn};
 use note_terms::Now;
 use question_form::{Aim, Edge, Unrolled};
 use std::alloc::{AllocError, Global};
@@ -98,6 +102,36 @@ fn into_head(
     Ok(())
 }
 
+/// The walk comes out of the frame where a bit is 1: the ensure lines are judged, or what the frame's own contract gives, and what may not have changed.
+fn outward(
+    unrolled: &Unrolled,
+    dag: &mut Dag,
+    sweep: &mut Sweep,
+    next: &Now,
+    hit: Term,
+) -> Result<(), AllocError>
+    requires walkable { IsWalkable (frame_unrolled_of unrolled.now) }
+    requires sweep { IsSweepOf unrolled.now sweep.old }
+    requires well { AreWell dag.old sweep.old }
+    requires goes { CanGo unrolled.now (length sweep.old.met.items) next.now.names.now Outward }
+    requires next { AreTermsOf sweep.old.entry dag.old next.now.names.now }
+    requires pc { HasWidth dag.old 32 next.now.pc.0 }
+    requires hit { HasWidth dag.old 1 hit.0 }
+    ensures steps { IfOk result (λ _. Steps dag.old dag.new sweep.old sweep.new (aim_gates unrolled.now next.now.names.now Outward)
+        (aim_loads unrolled.now Outward) 0 0 (aim_nodes unrolled.now next.now.names.now Outward) (λ m. ⊥)) }
+    ensures hands { IfOk result (λ _. Hands dag.old dag.new sweep.old sweep.new hit.0 (Follows unrolled.now dag.old sweep.old next.now Outward)) }
+{
+    let Some(own) = unrolled.own else {
+        judged(dag, sweep, &unrolled.notes.ensured, next, hit, unrolled.big)?;
+        return Ok(());
+    };
+    let left = judged(dag, sweep, &own.gives, next, hit, unrolled.big)?;
+    let differs = changed(dag, own, &sweep.entry, next.names)?;
+    let bit = both(dag, left, differs)?;
+    fail(dag, sweep, bit)?;
+    Ok(())
+}
+
 /// The walk goes on by an aim, where a bit is 1.
 pub fn follow(
     alloc: Global,
@@ -108,6 +142,8 @@ pub fn follow(
     next: &Now,
     hit: Term,
 ) -> Result<(), AllocError>
+    requires walkable { IsWalkable (frame_unrolled_of unrolled.now) }
+    requires sweep { IsSweepOf unrolled.now sweep.old }
     requires formed { IsFormed unrolled.now }
     requires well { AreWell dag.old sweep.old }
     requires goes { CanGo unrolled.now (length sweep.old.met.items) next.now.names.now aim }
@@ -124,7 +160,7 @@ pub fn follow(
             Ok(())
         }
         Aim::Outward => {
-            judged(dag, sweep, &unrolled.notes.ensured, next, hit, unrolled.big)?;
+            outward(unrolled, dag, sweep, next, hit)?;
             Ok(())
         }
         Aim::IntoHead {
@@ -184,6 +220,8 @@ pub fn taken(
     link: Term,
     rest: Term,
 ) -> Result<Term, AllocError>
+    requires walkable { IsWalkable (frame_unrolled_of unrolled.now) }
+    requires sweep { IsSweepOf unrolled.now sweep.old }
     requires formed { IsFormed unrolled.now }
     requires well { AreWell dag.old sweep.old }
     requires goes { CanGo unrolled.now (length sweep.old.met.items) gone.now.next.names.now edge.aim }
@@ -216,6 +254,8 @@ pub fn edges(
     link: Term,
     rest: Term,
 ) -> Result<Term, AllocError>
+    requires walkable { IsWalkable (frame_unrolled_of unrolled.now) }
+    requires sweep { IsSweepOf unrolled.now sweep.old }
     requires formed { IsFormed unrolled.now }
     requires well { AreWell dag.old sweep.old }
     requires goes { (e : Edge) → Contains list.now e → CanGo unrolled.now (length sweep.old.met.items) gone.now.next.names.now e.aim }

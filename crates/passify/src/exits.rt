@@ -1,6 +1,6 @@
 //! The exits of a point, tried one by one.
 
-ghost use Rattle.std.specs.Prelude.{◌≡◌, ◌≤◌, ◌<◌, ◌+◌, ◌*◌, ◌&&◌, not, IfOk, [], length, map, slice_index_or};
+ghost use Rattle.std.specs.Prelude.{◌≡◌, ◌≤◌, ◌<◌, ◌+◌, ◌*◌, ◌&&◌, Bool, not, IfOk, [], length, map, slice_index_or};
 ghost use Rattle.term_spec.specs.Terms.{HasWidth};
 ghost use Rattle.bilv_spec.specs.Points.{line_price, bytes_loaded};
 ghost use Rattle.term_spec.specs.Passive.{Tells};
@@ -10,7 +10,7 @@ ghost use Rattle.notes_value.specs.Views.{expr_of};
 ghost use Rattle.notes_value.specs.NoteViews.{note_line_of};
 ghost use Rattle.question_form.specs.FrameViews.{is_invariant as is_invariant_of};
 ghost use Rattle.term_names.specs.Views.{form_of};
-ghost use Rattle.passify.specs.Situations.{ChecksTried, LinesTried, no_line, checks_of, goes_out_by, said};
+ghost use Rattle.passify.specs.Situations.{ChecksTried, LinesTried, Situation, no_line, checks_of, goes_out_by, said};
 ghost use Rattle.passify.specs.Bits.{IsSplit};
 ghost use Rattle.passify.specs.Edges.{AreRead};
 ghost use Rattle.passify.specs.Exits.{LineFails, Narrows, Tries};
@@ -56,6 +56,26 @@ pub fn event(dag: &mut Dag, sweep: &mut Sweep, rest: Term, taken: Term) -> Resul
     let parts = split(dag, rest, taken)?;
     fail(dag, sweep, parts.on)?;
     Ok(parts.off)
+}
+
+/// An exit to an event is tried, which is taken where a bit is 0; what is left.
+pub fn unless(
+    dag: &mut Dag,
+    sweep: &mut Sweep,
+    rest: Term,
+    passed: Term,
+) -> Result<Term, AllocError>
+    requires well { AreWell dag.old sweep.old }
+    requires rest { HasWidth dag.old 1 rest.0 }
+    requires passed { HasWidth dag.old 1 passed.0 }
+    ensures steps { IfOk result (λ t. Steps dag.old dag.new sweep.old sweep.new 3 0 0 0 8 (λ m. ⊥)) }
+    ensures bit { IfOk result (λ t. HasWidth dag.new 1 t.0) }
+    ensures tries { IfOk result (λ t. Tries dag.old dag.new sweep.old sweep.new rest.0 t.0 (λ x q. Tells dag.old x passed.0 (not q)) (λ from x w b. HasEvent w)) }
+    ensures narrows { IfOk result (λ t. Narrows dag.old dag.new rest.0 t.0 (λ x q. Tells dag.old x passed.0 (not q))) }
+{
+    let parts = split(dag, rest, passed)?;
+    fail(dag, sweep, parts.off)?;
+    Ok(parts.on)
 }
 
 /// An exit to an event is tried, which is taken where a line is false in a state; what is left.
@@ -140,7 +160,7 @@ pub fn asserts(
     Ok(left)
 }
 
-/// The ensure lines are tried in the state that a point goes on to out of the function, where a bit is 1.
+/// The lines that are judged where the frame is left are tried in the state that a point goes on to out of it, where a bit is 1; what is left.
 pub fn judged(
     dag: &mut Dag,
     sweep: &mut Sweep,
@@ -154,9 +174,9 @@ pub fn judged(
     requires next { AreTermsOf sweep.old.entry dag.old next.now.names.now }
     requires pc { HasWidth dag.old 32 next.now.pc.0 }
     requires out { HasWidth dag.old 1 out.0 }
-    ensures { IfOk result (λ t. LinesTried dag.old dag.new sweep.old sweep.new out.0 t.0 big next.now
+    ensures { IfOk result (λ t. (changed : Situation → Bool) → LinesTried dag.old dag.new sweep.old sweep.new out.0 t.0 big next.now
         (λ S. S.next) (map (λ l. l.says) (map note_line_of lines.now)) []
-        (goes_out_by (map note_line_of lines.now)) (goes_out_by [])) }
+        (goes_out_by changed (map note_line_of lines.now)) (goes_out_by changed [])) }
 {
     let mut left = out;
     for i in 0..lines.len() {

@@ -3,11 +3,14 @@
 #![tactic(auto)]
 
 mod bits;
+mod calls;
 mod edges;
 mod exits;
 mod leaving;
+mod own;
 mod point;
 mod roots;
+mod spans;
 mod sweep;
 mod sweeping;
 mod writing;

@@ -5,20 +5,23 @@ ghost use Rattle.term_spec.specs.Terms.{HasWidth};
 ghost use Rattle.walk_spec.specs.Unrolled.{is_register_of};
 ghost use Rattle.frame_terms.specs.PassiveFrames.{IsWalkable};
 ghost use Rattle.question_form.specs.FrameViews.{frame_unrolled_of};
-ghost use Rattle.question_form.specs.Forms.{AreRootsFormed, IsFormed};
+ghost use Rattle.question_form.specs.Forms.{AreRootsFormed, AreStepsFormed, IsFormed};
 ghost use Rattle.question_form.specs.declared.unrolled.Deed.TheVariants.{Row};
 ghost use Rattle.question_form.specs.declared.unrolled.Edge.{Edge};
 ghost use Rattle.term_names.specs.Views.{form_of, names_of};
 ghost use Rattle.passify.specs.Edges.{CanGo};
+ghost use Rattle.passify.specs.Spans.{AreOwn};
 ghost use Rattle.passify.specs.Sweeps.{AreTermsOf, AreWell};
-ghost use Rattle.passify.specs.Rows.{IsLeaving, IsRowTried, is_of_head, own_edges, own_point};
+ghost use Rattle.passify.specs.Rows.{IsLeaving, IsRowTried, is_of_head, own_edges, own_index, own_point};
 ghost use Rattle.passify.specs.Handled.{IsHandled, IsSweepOf};
 
+use crate::calls::contract_step;
 use crate::edges::{Gone, edges};
 use crate::exits::{asserts, event};
 use crate::leaving::{next_address, unaligned};
+use crate::spans::stored_spans;
 use crate::sweep::{Sweep, fail};
-use crate::writing::writes_kept;
+use crate::writing::refused;
 use bil_terms::run_list;
 use note_terms::Now;
 use question_form::{Deed, Edge, Unrolled};
@@ -40,6 +43,20 @@ pub fn edges_at<'a>(unrolled: &'a Unrolled, place: usize) -> &'a [Edge]
     &unrolled.edges[from..]
 }
 
+/// The assert lines by address that are judged at a place: none where a contract step is made.
+fn index_at<'a>(unrolled: &'a Unrolled, place: usize) -> &'a [(u32, usize)]
+    requires formed { IsFormed unrolled.now }
+    requires place { place < length unrolled.now.points.items }
+    ensures { result.now ≡ own_index unrolled.now place }
+{
+    let point = unrolled.points[place];
+    if let Deed::Contract(_) = point.deed {
+        return &[];
+    }
+    let code = &unrolled.codes[point.code as usize];
+    &unrolled.asserts[code.asserts.0..code.asserts.1]
+}
+
 /// Whether the segment of the point at a place begins at a head.
 pub fn begins_at_head(unrolled: &Unrolled, place: u32) -> bool
     requires roots { AreRootsFormed unrolled.now }
@@ -51,14 +68,14 @@ pub fn begins_at_head(unrolled: &Unrolled, place: u32) -> bool
 }
 
 /// The term of the link register at entry.
-fn entry_link(names: &Names, link: u8) -> Term
+pub fn entry_link(names: &Names, link: u8) -> Term
     requires { is_register_of (form_of names.now) link ≡ true }
     ensures { result.0 ≡ slice_index (names_of names.now).registers (link - names.now.first) }
 {
     names.registers[(link - names.first) as usize]
 }
 
-/// How a point is left: whether an exception is raised, whether a kept byte is stored, and whether it goes on to where no row can stand, each of 1 bit.
+/// How a point is left: whether an exception is raised, whether a byte is stored that may not be, and whether it goes on to where no row can stand, each of 1 bit.
 #[derive(Clone, Copy)]
 struct Leaves {
     raised: Term,
@@ -78,6 +95,8 @@ fn leave(
     link: Term,
     rest: Term,
 ) -> Result<Term, AllocError>
+    requires walkable { IsWalkable (frame_unrolled_of unrolled.now) }
+    requires sweep { IsSweepOf unrolled.now sweep.old }
     requires formed { IsFormed unrolled.now }
     requires well { AreWell dag.old sweep.old }
     requires raised { HasWidth dag.old 1 leaves.now.raised.0 }
@@ -116,6 +135,7 @@ fn row(
     requires deed { (own_point unrolled.now place).deed ≡ Row }
     requires well { AreWell dag.old sweep.old }
     requires sweep { IsSweepOf unrolled.now sweep.old }
+    requires own { AreOwn unrolled.now dag.old sweep.old }
     requires names { AreTermsOf sweep.old.entry dag.old names.now }
     requires rest { HasWidth dag.old 1 rest.0 }
     ensures { IfOk result (λ t. IsRowTried unrolled.now place names.now dag.old dag.new sweep.old sweep.new rest.0 t.0) }
@@ -125,7 +145,8 @@ fn row(
         return Ok(rest);
     };
     let left = run_list(alloc, dag, list, names, place)?;
-    let wrote = writes_kept(dag, &left.stored, unrolled.kept)?;
+    let stored = stored_spans(alloc, &left.stored)?;
+    let wrote = refused(dag, unrolled, &stored, &sweep.own)?;
     let next = next_address(dag, code.at, code.length, left.jumped, left.target)?;
     let odd = unaligned(dag, unrolled.narrow, next)?;
     let leaves = Leaves {
@@ -149,7 +170,7 @@ fn row(
 }
 
 /// The point of a place is handled, to which terms carry a state where it is met: its list, the exits that it may take, and where those lead. An event counts as
-/// one of the entry's segment. An arrival has no exits but those by the lines of its head.
+/// one of the entry's segment. An arrival has no exits but those by the lines of its head; a contract step judges no assert line.
 pub fn handle(
     alloc: Global,
     unrolled: &Unrolled,
@@ -161,16 +182,18 @@ pub fn handle(
     requires walkable { IsWalkable (frame_unrolled_of unrolled.now) }
     requires formed { IsFormed unrolled.now }
     requires roots { AreRootsFormed unrolled.now }
+    requires steps { AreStepsFormed unrolled.now }
     requires place { place < length unrolled.now.points.items }
     requires well { AreWell dag.old sweep.old }
     requires sweep { IsSweepOf unrolled.now sweep.old }
+    requires own { AreOwn unrolled.now dag.old sweep.old }
     requires names { AreTermsOf sweep.old.entry dag.old names.now }
     ensures { IfOk result (λ _. IsHandled unrolled.now dag.old dag.new sweep.old sweep.new place names.now) }
 {
     let point = unrolled.points[place as usize];
     let skips = begins_at_head(unrolled, place);
     let code = &unrolled.codes[point.code as usize];
-    let index = &unrolled.asserts[code.asserts.0..code.asserts.1];
+    let index = index_at(unrolled, place as usize);
     let pc = dag.keep(Node::Constant {
         width: 32,
         value: u64::from(code.at),
@@ -182,6 +205,11 @@ pub fn handle(
         Deed::Arrival => Ok(()),
         Deed::Row => {
             let left = row(alloc, unrolled, dag, sweep, place, names, rest)?;
+            fail(dag, sweep, left)?;
+            Ok(())
+        }
+        Deed::Contract(number) => {
+            let left = contract_step(alloc, unrolled, dag, sweep, place, number, &now, rest)?;
             fail(dag, sweep, left)?;
             Ok(())
         }

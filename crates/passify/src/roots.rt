@@ -4,18 +4,19 @@ ghost use Rattle.std.specs.Prelude.{◌≡◌, ◌<◌, ◌+◌, IfOk, None, [],
 ghost use Rattle.term_spec.specs.Terms.{AreTyped, HasWidth};
 ghost use Rattle.term_spec.specs.Passive.{AreNames};
 ghost use Rattle.start_value.specs.Starts.{layout_of};
-ghost use Rattle.frame_terms.specs.PassiveFrames.{IsWalkable};
+ghost use Rattle.frame_terms.specs.PassiveFrames.{IsWalkable, inputs_of};
 ghost use Rattle.question_form.specs.Forms.{AreBounds, AreRootsFormed, IsFormed};
 ghost use Rattle.question_form.specs.FrameViews.{frame_unrolled_of};
 ghost use Rattle.term_names.specs.Chosen.{HaveSameForm, HaveSameTerms};
-ghost use Rattle.term_names.specs.Views.{form_of, names_of};
+ghost use Rattle.term_names.specs.Views.{AreFor, form_of, names_of};
 ghost use Rattle.passify.specs.Edges.{AreRead};
-ghost use Rattle.passify.specs.Planted.{AreAssumed, AreHeadNames, AreHeaded, ArePlanted, assumed_lines, begins_with};
+ghost use Rattle.passify.specs.Planted.{AreAssumed, AreHeadNames, AreHeaded, ArePlanted, assumed_lines, begins_with, AreOwnSpans};
 ghost use Rattle.passify.specs.Swept.{AreSwept};
 
 use crate::bits::{both, constant};
 use crate::exits::is_invariant;
 use crate::point::begins_at_head;
+use crate::spans::{Span, spans};
 use crate::sweep::Sweep;
 use note_terms::{Now, line};
 use question_form::Unrolled;
@@ -67,6 +68,32 @@ fn head_names(
     Ok(names)
 }
 
+/// The bytes that the frame's own contract may write, by the state at entry; none where it has none.
+fn own_spans(
+    alloc: Global,
+    dag: &mut Dag,
+    unrolled: &Unrolled,
+    entry: &Names,
+    pc: Term,
+    yes: Term,
+) -> Result<Vec<Span>, AllocError>
+    requires typed { AreTyped dag.old }
+    requires walkable { IsWalkable (frame_unrolled_of unrolled.now) }
+    requires form { AreFor (inputs_of (frame_unrolled_of unrolled.now)) entry.now }
+    requires names { AreNames (form_of entry.now) dag.old (names_of entry.now) }
+    requires pc { HasWidth dag.old 32 pc.0 }
+    requires yes { HasWidth dag.old 1 yes.0 }
+    ensures { IfOk result (λ spans. AreOwnSpans unrolled.now dag.old dag.new entry.now pc.0 spans.items) }
+{
+    let Some(own) = unrolled.own else {
+        let none = Vec::new(alloc);
+        return Ok(none);
+    };
+    let now = Now { names: entry, pc };
+    let spans = spans(alloc, dag, &own.writes, &now, yes, unrolled.big)?;
+    Ok(spans)
+}
+
 /// What is kept before any segment has begun, the terms of the state at a head, and a bit that is always 1.
 #[derive(Drop)]
 struct Prepared {
@@ -90,6 +117,7 @@ fn prepare(alloc: Global, dag: &mut Dag, unrolled: &Unrolled) -> Result<Prepared
     })?;
     let yes = constant(dag, true)?;
     let never = constant(dag, false)?;
+    let own = own_spans(alloc, dag, unrolled, &entry, pc, yes)?;
     let places = unrolled.points.len();
     let met = same_bits(alloc, never, places)?;
     let states = no_states(alloc, places)?;
@@ -102,6 +130,7 @@ fn prepare(alloc: Global, dag: &mut Dag, unrolled: &Unrolled) -> Result<Prepared
         fails: never,
         steps: never,
         turns: never,
+        own,
     };
     Ok(Prepared { sweep, head, yes })
 }

@@ -6,13 +6,14 @@ ghost use Rattle.walk_spec.specs.Unrolled.{WalkTurns};
 ghost use Rattle.passify.specs.Sweeps.{AreTermsOf, AreWell, ComesTo, Hands, HasEvent, IsJoined, Steps, term_at, bits_of, terms_of};
 
 use crate::bits::either;
+use crate::spans::Span;
 use std::alloc::{AllocError, Global};
 use term_dag::{Dag, Term};
 use term_names::{Names, copied, selected};
 
 /// The terms of the state at entry and of its address; for each point whether it is met, and for those that are still to be handled, and were come to, the
 /// terms of what is carried there; whether an event came in the entry's segment, whether one came in a segment from a head, and whether one backward transfer
-/// too many did.
+/// too many did. Beside these the bytes that the frame's own contract may write, by the state at entry; none where it has none.
 #[derive(Drop)]
 pub struct Sweep {
     pub entry: Names,
@@ -23,6 +24,7 @@ pub struct Sweep {
     pub fails: Term,
     pub steps: Term,
     pub turns: Term,
+    pub own: Vec<Span>,
 }
 
 /// An event comes where the bit is 1.

@@ -6,11 +6,12 @@ ghost use Rattle.frame_terms.specs.PassiveFrames.{IsPassive, IsWalkable};
 ghost use Rattle.question_form.specs.Views.{unrolled_of};
 ghost use Rattle.question_form.specs.FrameViews.{IsHeadless, frame_unrolled_of};
 ghost use Rattle.question_form.specs.FrameQuestions.{frame_passive_of};
-ghost use Rattle.question_form.specs.Forms.{AreRootsFormed, IsFormed};
+ghost use Rattle.question_form.specs.Forms.{AreRootsFormed, AreStepsFormed, IsFormed};
 ghost use Rattle.passify.specs.Handled.{IsSweepOf};
 ghost use Rattle.passify.specs.Lasts.{AreCarriedIn, AreCarriedTo};
 ghost use Rattle.passify.specs.Made.{IsPassiveIn, IsPassiveOf};
 ghost use Rattle.passify.specs.Planted.{AreHeaded};
+ghost use Rattle.passify.specs.Spans.{AreOwn};
 ghost use Rattle.passify.specs.Sweeps.{AreTermsOf, AreWell};
 ghost use Rattle.passify.specs.Swept.{AreSwept, IsPassed};
 ghost use Rattle.term_names.specs.declared.names.Names.{Names};
@@ -48,9 +49,11 @@ fn pass(
     requires walkable { IsWalkable (frame_unrolled_of unrolled.now) }
     requires formed { IsFormed unrolled.now }
     requires roots { AreRootsFormed unrolled.now }
+    requires steps { AreStepsFormed unrolled.now }
     requires place { place < length unrolled.now.points.items }
     requires well { AreWell dag.old sweep.old }
     requires sweep { IsSweepOf unrolled.now sweep.old }
+    requires own { AreOwn unrolled.now dag.old sweep.old }
     requires names { AreTermsOf sweep.old.entry dag.old names.now }
     ensures { IfOk result (λ _. IsPassed unrolled.now dag.old dag.new sweep.old sweep.new place names.now) }
 {
@@ -75,6 +78,7 @@ fn visit(
     requires walkable { IsWalkable (frame_unrolled_of unrolled.now) }
     requires formed { IsFormed unrolled.now }
     requires roots { AreRootsFormed unrolled.now }
+    requires steps { AreStepsFormed unrolled.now }
     requires place { place < length unrolled.now.points.items }
     requires swept { AreSwept unrolled.now place dag.old sweep.old }
     ensures swept { IfOk result (λ _. AreSwept unrolled.now (place + 1) dag.new sweep.new) }
@@ -109,6 +113,7 @@ fn swept<'a>(alloc: Global, unrolled: &'a Unrolled<'a>) -> Result<ToLast<'a>, Al
     requires walkable { IsWalkable (frame_unrolled_of unrolled.now) }
     requires formed { IsFormed unrolled.now }
     requires roots { AreRootsFormed unrolled.now }
+    requires steps { AreStepsFormed unrolled.now }
     requires headed { AreHeaded unrolled.now }
     ensures passive { IfOk result (λ t. IsPassiveIn unrolled.now t.passive) }
     ensures last { IfOk result (λ t. AreCarriedIn (frame_unrolled_of unrolled.now) (length unrolled.now.points.items - 1) t.passive.dag t.last) }
@@ -143,7 +148,8 @@ fn swept<'a>(alloc: Global, unrolled: &'a Unrolled<'a>) -> Result<ToLast<'a>, Al
 }
 
 /// The passive program of an unrolled frame, of which terms can be made: for each point whether it is met, and whether an event of the entry's segment, one of a
-/// segment from a head, or one backward transfer too many comes, where the invariants that roots assume are true.
+/// segment from a head, or one backward transfer too many comes, where the invariants that roots assume are true. Among its nodes are the states at the points
+/// that are met, behind a contract step but for memory that no machine sees.
 ///
 /// # Errors
 ///
@@ -155,9 +161,11 @@ pub fn passive_of_frame<'a>(
     requires walkable { IsWalkable (frame_unrolled_of unrolled.now) }
     requires formed { IsFormed unrolled.now }
     requires roots { AreRootsFormed unrolled.now }
+    requires steps { AreStepsFormed unrolled.now }
     requires headed { AreHeaded unrolled.now }
     ensures of { IfOk result (λ p. p.unrolled.now ≡ unrolled.now) }
     ensures passive { IfOk result (λ p. IsPassive (frame_unrolled_of unrolled.now) unrolled.now.heads (frame_passive_of p)) }
+    ensures states { IfOk result (IsPassiveIn unrolled.now) }
 {
     let ToLast { passive, .. } = swept(alloc, unrolled)?;
     Ok(passive)

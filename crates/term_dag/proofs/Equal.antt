@@ -1,8 +1,9 @@
 -- Nodes that `==` finds equal are equal, and so are nodes that are seen as one.
-use Rattle.std.proofs.Common.{◌≡◌, Bool, true, false, rules, refl, sym, ap, ◌∙◌, subst}
+use Rattle.std.proofs.Common.{◌≡◌, ℕ, Bool, true, false, rules, refl, sym, ap, ◌∙◌, subst}
 use Rattle.machine_spec.specs.Bil as bil
 use Rattle.word_spec.specs.Memory as memory
 use Rattle.term_spec.specs.Terms.{TermNode, RegisterNode, FlagNode, ChoiceNode, BaseNode, MemoryNode, ConstantNode, BinaryNode, NotNode, SelectNode, ExtractNode, ConcatNode, ExtendNode, LoadNode, StoreNode, JoinNode, TakeNode}
+use Rattle.term_dag.specs.declared.nodes.Term.{Term}
 use Rattle.term_dag.specs.declared.nodes.Op.{Op}
 use Rattle.term_dag.specs.declared.nodes.Op.TheVariants as op
 use Rattle.term_dag.specs.declared.nodes.Node.{Node}
@@ -10,8 +11,63 @@ use Rattle.term_dag.specs.declared.nodes.Node.TheVariants as node
 use Rattle.term_dag.specs.contracts.nodes.NodePartialEq.TheImpl.{eq-value}
 use Rattle.term_dag.specs.Nodes.{op_of, node_of}
 
+same_binary : (o p : Op) (w v : ℕ) (a b c d : Term) → (eq-value).it (node.Binary o w a b) (node.Binary p v c d) ≡ true →
+    node.Binary o w a b ≡ node.Binary p v c d
+same_binary op.Plus p w v a b c d h = search rules
+same_binary op.Minus p w v a b c d h = search rules
+same_binary op.Times p w v a b c d h = search rules
+same_binary op.Divide p w v a b c d h = search rules
+same_binary op.SignedDivide p w v a b c d h = search rules
+same_binary op.Modulo p w v a b c d h = search rules
+same_binary op.SignedModulo p w v a b c d h = search rules
+same_binary op.And p w v a b c d h = search rules
+same_binary op.Or p w v a b c d h = search rules
+same_binary op.Xor p w v a b c d h = search rules
+same_binary op.ShiftLeft p w v a b c d h = search rules
+same_binary op.ShiftRight p w v a b c d h = search rules
+same_binary op.ShiftSigned p w v a b c d h = search rules
+same_binary op.Equal p w v a b c d h = search rules
+same_binary op.NotEqual p w v a b c d h = search rules
+same_binary op.Less p w v a b c d h = search rules
+same_binary op.LessEqual p w v a b c d h = search rules
+same_binary op.SignedLess p w v a b c d h = search rules
+same_binary op.SignedLessEqual p w v a b c d h = search rules
+
+same_as_binary : (o : Op) (w : ℕ) (a b : Term) (y : Node) → (eq-value).it (node.Binary o w a b) y ≡ true → node.Binary o w a b ≡ y
+same_as_binary o w a b (node.Binary p v c d) h = same_binary o p w v a b c d h
+same_as_binary o w a b (node.Register k r) h = search rules
+same_as_binary o w a b (node.Flag k f) h = search rules
+same_as_binary o w a b (node.Choice i) h = search rules
+same_as_binary o w a b (node.Base k j) h = search rules
+same_as_binary o w a b (node.Memory k) h = search rules
+same_as_binary o w a b (node.Constant z v) h = search rules
+same_as_binary o w a b (node.Not z x) h = search rules
+same_as_binary o w a b (node.Select z t x y) h = search rules
+same_as_binary o w a b (node.Extract hi lo x) h = search rules
+same_as_binary o w a b (node.Concat high low x y) h = search rules
+same_as_binary o w a b (node.Extend s n m x) h = search rules
+same_as_binary o w a b (node.Load n big m x) h = search rules
+same_as_binary o w a b (node.Store n big m x v) h = search rules
+same_as_binary o w a b (node.Join t x y) h = search rules
+same_as_binary o w a b (node.Take n m x p) h = search rules
+
 pub same : (x y : Node) → (eq-value).it x y ≡ true → x ≡ y
-same x y h = search rules
+same (node.Register k r) y h = search rules
+same (node.Flag k f) y h = search rules
+same (node.Choice i) y h = search rules
+same (node.Base k j) y h = search rules
+same (node.Memory k) y h = search rules
+same (node.Constant w v) y h = search rules
+same (node.Binary o w a b) y h = same_as_binary o w a b y h
+same (node.Not w a) y h = search rules
+same (node.Select w c a b) y h = search rules
+same (node.Extract hi lo a) y h = search rules
+same (node.Concat high low a b) y h = search rules
+same (node.Extend s n m a) y h = search rules
+same (node.Load n big m a) y h = search rules
+same (node.Store n big m a v) y h = search rules
+same (node.Join c a b) y h = search rules
+same (node.Take n m a p) y h = search rules
 
 itself : (x : Node) → (eq-value).it x x ≡ true
 itself (node.Register k r) = search rules
@@ -29,6 +85,7 @@ itself (node.Extend s n m a) = search rules
 itself (node.Load n big m a) = search rules
 itself (node.Store n big m a v) = search rules
 itself (node.Join c a b) = search rules
+itself (node.Take n m a p) = search rules
 
 -- the operator that is seen so
 abbrev back_op : bil.BinaryOp → Op
@@ -98,7 +155,7 @@ back (ExtendNode s n m a) = node.Extend s n m (record { 0 = a })
 back (LoadNode n e m a) = node.Load n (is_big e) (record { 0 = m }) (record { 0 = a })
 back (StoreNode n e m a v) = node.Store n (is_big e) (record { 0 = m }) (record { 0 = a }) (record { 0 = v })
 back (JoinNode c a b) = node.Join (record { 0 = c }) (record { 0 = a }) (record { 0 = b })
-back (TakeNode n m a p) = node.Memory p
+back (TakeNode n m a p) = node.Take n (record { 0 = m }) (record { 0 = a }) p
 
 back_of : (x : Node) → back (node_of x) ≡ x
 back_of (node.Register k r) = refl
@@ -116,6 +173,7 @@ back_of (node.Extend s n m a) = refl
 back_of (node.Load n big m a) = ap (λ z. node.Load n z m a) (is_big_of big)
 back_of (node.Store n big m a v) = ap (λ z. node.Store n z m a v) (is_big_of big)
 back_of (node.Join c a b) = refl
+back_of (node.Take n m a p) = refl
 
 -- nodes that are seen as one are found equal
 pub seen_same : (x y : Node) → node_of x ≡ node_of y → (eq-value).it x y ≡ true

@@ -48,6 +48,7 @@ node_of (node.Extend signed n m a) = ExtendNode signed n m a.0
 node_of (node.Load n big m a) = LoadNode n (endian big) m.0 a.0
 node_of (node.Store n big m a v) = StoreNode n (endian big) m.0 a.0 v.0
 node_of (node.Join c a b) = JoinNode c.0 a.0 b.0
+node_of (node.Take n m a p) = TakeNode n m.0 a.0 p
 
 -- the nodes of a list
 abbrev pub nodes_of : List Node → List TermNode

@@ -108,7 +108,7 @@ pub fn width_of_node(nodes: &[Node], node: Node) -> u8
         Node::Flag { .. } => 1,
         Node::Choice(_) => 2,
         Node::Base { .. } => 8,
-        Node::Memory(_) | Node::Store { .. } | Node::Join { .. } => 0,
+        Node::Memory(_) | Node::Store { .. } | Node::Join { .. } | Node::Take { .. } => 0,
         Node::Constant { width, .. } | Node::Not { width, .. } | Node::Select { width, .. } =>
             width,
         Node::Binary { op, width, .. } => result_width(op, width),

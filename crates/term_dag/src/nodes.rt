@@ -122,6 +122,13 @@ pub enum Node {
         when_true: Term,
         when_false: Term,
     },
+    /// A memory with the bytes that the memory of a part has at so many addresses from one on, at least 1; addresses wrap.
+    Take {
+        bytes: u32,
+        memory: Term,
+        address: Term,
+        part: u32,
+    },
 }
 
 /// The term at the place of another.
@@ -154,6 +161,11 @@ impl Node {
                 ..
             }
             | Node::Load {
+                memory: a,
+                address: b,
+                ..
+            }
+            | Node::Take {
                 memory: a,
                 address: b,
                 ..
@@ -203,6 +215,14 @@ impl Node {
                 *lower = at(terms, *lower);
             }
             Node::Load {
+                memory,
+                address,
+                ..
+            } => {
+                *memory = at(terms, *memory);
+                *address = at(terms, *address);
+            }
+            Node::Take {
                 memory,
                 address,
                 ..

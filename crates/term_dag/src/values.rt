@@ -140,6 +140,18 @@ pub fn byte(nodes: &[Node], words: &[u64], parts: &Parts, term: Term, address: u
                     at = when_false;
                 }
             }
+            Node::Take {
+                bytes,
+                memory,
+                address: first,
+                part: of,
+            } => {
+                let place = address.wrapping_sub(words[first.0 as usize] as u32);
+                if place < bytes {
+                    return memory_byte(part(parts, of), address);
+                }
+                at = memory;
+            }
             _ => return 0,
         }
     }
@@ -262,6 +274,7 @@ fn word_of(nodes: &[Node], words: &[u64], parts: &Parts, node: Node) -> u64
         Node::Memory(_) => 0,
         Node::Store { .. } => 0,
         Node::Join { .. } => 0,
+        Node::Take { .. } => 0,
         Node::Constant { value, .. } => value,
         Node::Binary {
             op,

@@ -1,3 +1,4 @@
 pub mod Views
 pub mod Choices
 pub mod Chosen
+pub mod Gifts

@@ -1,10 +1,8 @@
 -- What the term of a question of a frame says, from that of the entry condition and a passive program.
-use Rattle.std.proofs.Common.{inl, inr, ◌≡◌, ◌↔◌, ℕ, ◌+◌, Bool, true, false, ◌&&◌, bit_and, List, [], map, Option, None, Some, ◌≤◌, Contains, refl, ap, sym, subst, ◌∙◌, arith}
+use Rattle.std.proofs.Common.{inl, inr, ◌≡◌, ◌↔◌, ℕ, Bool, true, false, ◌&&◌, bit_and, List, [], ◌≤◌, Contains, refl, ap, sym, subst, ◌∙◌, arith}
 use Rattle.std.specs.Prelude.{sum_by}
-use Rattle.std.proofs.lemmas.List.Sums.{sum_by-append}
 use Rattle.word_spec.specs.Words.{bit}
 use Rattle.word_spec.specs.State.{State}
-use Rattle.bilv_spec.specs.Notes.{Expr}
 use Rattle.bilv_spec.specs.Points.{line_price, bytes_loaded}
 use Rattle.walk_spec.specs.Prices as prices
 use Rattle.walk_spec.specs.Prices.{line_size, line_steps}
@@ -16,8 +14,8 @@ use Rattle.term_spec.specs.Passive as passive
 use Rattle.term_spec.specs.WalkQuestions as walks
 use Rattle.term_spec.specs.WalkQuestions.{QuestionTerm}
 use Rattle.frame_spec.specs.FrameQuestions.{Reading, IsReading, Question, EntryQuestion, FailQuestion, StepQuestion, TurnQuestion}
-use Rattle.frame_spec.specs.FrameWalk.{Own, UnrolledProgram, Held, swept}
-use Rattle.frame_laws.specs.FramePrices.{entry_lines}
+use Rattle.frame_spec.specs.FrameWalk.{UnrolledProgram, Held, swept}
+use Rattle.frame_laws.specs.FramePrices.{required_lines}
 use Rattle.frame_laws.specs.HeadlessLaws.{as_question, as_unrolled}
 use Rattle.frame_laws.specs.RunOfFrame.{SweepEndsBy}
 use Rattle.frame_laws.proofs.FrameSums.{frame_parts_add_up}
@@ -118,19 +116,18 @@ module _ (u : UnrolledProgram) (heads : Bool) where
   named_all (JoinNode c a b) h = tt
   named_all (TakeNode n m a p) h = h tt
 
-  -- the lines that are required are among those that are evaluated at the entry
-  lines_within : (f : Expr → ℕ) (own : Option Own) → sum_by f (prices.entry_lines (inputs_of u)) ≤ sum_by f (entry_lines (record u { own = own }))
-  lines_within f None = let a = sum_by-append f (prices.entry_lines (inputs_of u)) [] in omega arith
-  lines_within f (Some x) = let a = sum_by-append f (prices.entry_lines (inputs_of u)) (map (λ w. w.says) x.writes) in omega arith
+  -- the lines of the entry condition are those that are required
+  lines_same : prices.entry_lines (inputs_of u) ≡ required_lines u
+  lines_same = refl
 
-  prices_within : sum_by line_price (prices.entry_lines (inputs_of u)) ≤ sum_by line_price (entry_lines u)
-  prices_within = lines_within line_price u.own
+  prices_within : sum_by line_price (prices.entry_lines (inputs_of u)) ≤ sum_by line_price (required_lines u)
+  prices_within = let e = ap (sum_by line_price) lines_same in omega (arith, e)
 
-  loads_within : sum_by bytes_loaded (prices.entry_lines (inputs_of u)) ≤ sum_by bytes_loaded (entry_lines u)
-  loads_within = lines_within bytes_loaded u.own
+  loads_within : sum_by bytes_loaded (prices.entry_lines (inputs_of u)) ≤ sum_by bytes_loaded (required_lines u)
+  loads_within = let e = ap (sum_by bytes_loaded) lines_same in omega (arith, e)
 
-  steps_within : line_steps (prices.entry_lines (inputs_of u)) ≤ line_steps (entry_lines u)
-  steps_within = lines_within (λ e. line_size e + 4) u.own
+  steps_within : line_steps (prices.entry_lines (inputs_of u)) ≤ line_steps (required_lines u)
+  steps_within = let e = ap line_steps lines_same in omega (arith, e)
 
   -- a question by the tests of the entry condition and of how the segments end
   question_by : (question : Question) (r : Reading) (word : ℕ) → word ≡ bit (meets (inputs_of u) r.state && ends question (swept u r)) →

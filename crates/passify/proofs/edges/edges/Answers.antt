@@ -3,7 +3,7 @@ use Rattle.std.proofs.lemmas.List.Elements.{Contains-get_or}
 use Rattle.question_form.specs.declared.unrolled.Edge.{Edge}
 use Rattle.question_form.specs.declared.unrolled.Aim.TheVariants.{OnTo}
 use Rattle.passify.specs.Edges.{EdgesTried}
-use Rattle.passify.proofs.Lines.{drop_all, drop_here}
+use Rattle.passify.proofs.Lines.{drop_all, drop_here, like_sweep}
 use Rattle.passify.proofs.Pushed.{other_default}
 use Rattle.passify.proofs.Taken.{edges_none, edge_tried, can_go_on}
 use Rattle.passify.proofs.edges.edges.Goals as goal
@@ -38,3 +38,6 @@ returns c =
     subst (λ (q : List Edge). EdgesTried c.args.unrolled.now c.args.dag.now c.loop-i.dag c.args.sweep.now c.loop-i.sweep c.args.rest.0 c.loop-i.left.0
     c.args.gone.now.next c.args.gone.now.jumped.0 c.args.link.0 c.args.list.now q)
     (drop_all c.args.list.now c.loop-i.i c.loop-i-test.false) c.loop-i.invariant
+
+pub taken-requires-clause-sweep : goal.taken-requires-clause-sweep
+taken-requires-clause-sweep c = like_sweep c.args.unrolled.now c.args.sweep.now c.loop-i.sweep c.loop-i.invariant.edges.steps.like c.requires.sweep

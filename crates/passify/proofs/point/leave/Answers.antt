@@ -1,5 +1,5 @@
 use Rattle.passify.proofs.Quit.{leave_tried, leave_names}
-use Rattle.passify.proofs.Lines.{like_on}
+use Rattle.passify.proofs.Lines.{like_on, like_sweep}
 use Rattle.passify.proofs.Taken.{can_go_on}
 use Rattle.passify.proofs.point.leave.Goals as goal
 
@@ -26,3 +26,10 @@ returns c =
     c.in_ok-left.left.0 c.args.leaves.now.raised.0 c.args.leaves.now.wrote.0 c.args.leaves.now.odd.0 c.args.gone.now.next c.args.gone.now.jumped.0
     c.args.link.0 c.args.list.now c.requires.wrote c.requires.odd c.requires.next c.requires.pc c.requires.jumped c.requires.link
     a.steps a.tries a.narrows b.steps b.tries b.narrows e.steps e.tries e.narrows c.in_ok-left.ensures
+
+pub edges-requires-clause-sweep : goal.edges-requires-clause-sweep
+edges-requires-clause-sweep c =
+    like_sweep c.args.unrolled.now c.args.sweep.now c.event-3.new.sweep
+    (like_on c.args.sweep.now c.event-2.new.sweep c.event-3.new.sweep
+    (like_on c.args.sweep.now c.event.new.sweep c.event-2.new.sweep c.in_ok-quiet.ensures.steps.like c.in_ok-kept.ensures.steps.like)
+    c.in_ok-aligned.ensures.steps.like) c.requires.sweep

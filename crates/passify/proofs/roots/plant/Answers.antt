@@ -102,4 +102,5 @@ returns c =
       fails = refl;
       steps = refl;
       turns = refl;
+      own = refl;
     })

@@ -27,7 +27,7 @@ placed : (c : goal.Joined-index_mut) → Placed c.args.sweep.now
       states = with_item c.args.sweep.now.states c.args.place
           (Some c.in_ok-state.state);
     }) c.args.place c.in_ok-sweep.field-0 c.in_ok-state.state
-placed c = record { within = c.requires.place; entry = refl; pc = refl; at = refl; met = refl; states = refl; fails = refl; steps = refl; turns = refl }
+placed c = record { within = c.requires.place; entry = refl; pc = refl; at = refl; met = refl; states = refl; fails = refl; steps = refl; turns = refl; own = refl }
 
 pub returns-clause-steps : goal.returns-clause-steps
 returns-clause-steps c = arrived_steps _ _ _ _ _ _ _ _ _ _ _ _ (arrived c) (placed c)

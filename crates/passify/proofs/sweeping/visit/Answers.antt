@@ -99,3 +99,6 @@ returns-in_ok-pass-in-Some-clause-kept c i names h =
 
 pub pass-requires-clause-sweep : goal.pass-requires-clause-sweep
 pass-requires-clause-sweep c = record { form = c.requires.swept.sweep.form; at = c.requires.swept.sweep.at; places = c.requires.swept.sweep.places }
+
+pub pass-requires-clause-own : goal.pass-requires-clause-own
+pass-requires-clause-own c = record { each = c.requires.swept.own.each; count = c.requires.swept.own.count; written = c.requires.swept.own.written }

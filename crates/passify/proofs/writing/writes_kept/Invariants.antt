@@ -9,4 +9,4 @@ use Rattle.passify.proofs.writing.writes_kept.Given as goal
 abbrev pub invariant-loop-i : goal.invariant-loop-i
 invariant-loop-i l =
     Makes l.fn.dag l.dag (98 * (l.i * length (map kept_of l.kept))) (1 + 10 * (l.i * length (map kept_of l.kept))) 1 l.some.0
-    (λ x. Tells l.dag x l.some.0 (list_any (keeps_hit l.fn.dag x (map kept_of l.kept)) (take l.i l.stored)))
+    (λ x. Tells l.dag x l.some.0 (list_any (keeps_hit l.fn.dag x (map kept_of l.kept)) (take l.i l.spans)))

@@ -1,7 +1,7 @@
 use Rattle.std.proofs.Common.{refl, ap, ◌∙◌, arith}
 use Rattle.std.proofs.Math.Facts.{Fits-of_lt}
 use Rattle.term_dag.specs.Readings.{reading_of, reading_of_parts}
-use Rattle.term_dag.proofs.Bytes.{entry_byte, address_within, in_store, past_store, store_before, first_before, second_before, join_first, join_second, no_bytes, parts_in_range}
+use Rattle.term_dag.proofs.Bytes.{entry_byte, address_within, in_store, past_store, store_before, first_before, second_before, in_take, past_take, take_before, join_first, join_second, no_bytes, parts_in_range}
 use Rattle.term_dag.proofs.Ranges.{word_fits}
 use Rattle.term_dag.proofs.ListLaws.{typed_here}
 use Rattle.term_dag.proofs.values.byte.Goals as goal
@@ -80,12 +80,12 @@ loop-of-preserved-then-words-condition-gt0 c =
           c.if-words-condition-gt0.true ∙ v.same;
     }
 
-pub loop-of-smaller : goal.loop-of-smaller
-loop-of-smaller c =
+pub loop-of-smaller-else-words-condition-gt0 : goal.loop-of-smaller-else-words-condition-gt0
+loop-of-smaller-else-words-condition-gt0 c =
     second_before (reading_of_parts c.args.parts.now) _ _ _ c.args.address c.requires.typed c.requires.words c.loop-of.invariant.within _ _ _ c.in-Join.ensures
 
-pub loop-of-preserved : goal.loop-of-preserved
-loop-of-preserved c =
+pub loop-of-preserved-else-words-condition-gt0 : goal.loop-of-preserved-else-words-condition-gt0
+loop-of-preserved-else-words-condition-gt0 c =
     let v = c.loop-of.invariant in
     let y = typed_here _ _ _ c.requires.typed v.within c.in-Join.ensures in
     record {
@@ -94,8 +94,47 @@ loop-of-preserved c =
           c.if-words-condition-gt0.false ∙ v.same;
     }
 
+pub bounds-words-first-in-Take : goal.bounds-words-first-in-Take
+bounds-words-first-in-Take c =
+    let y = typed_here _ _ _ c.requires.typed c.loop-of.invariant.within c.in-Take.ensures in
+    omega (arith, y.2.0, c.requires.words.count)
+
+pub overflow_cast-place-in-Take-2 : goal.overflow_cast-place-in-Take-2
+overflow_cast-place-in-Take-2 c =
+    let r = reading_of_parts c.args.parts.now in
+    let y = typed_here _ _ _ c.requires.typed c.loop-of.invariant.within c.in-Take.ensures in
+    Fits-of_lt (omega (
+      arith,
+      c.requires.words.each c.in-Take.first.0 y.2.0,
+      word_fits r _ 32 c.in-Take.first.0
+          (parts_in_range c.args.parts.now) c.requires.typed y.2,
+    ))
+
+pub returns-then-place-bytes-2 : goal.returns-then-place-bytes-2
+returns-then-place-bytes-2 c =
+    let v = c.loop-of.invariant in
+    c.memory_byte-then-place-bytes-2.ensures
+    ∙ ap (λ z. (reading_of z).mem 0 c.args.address) c.part-then-place-bytes-2.ensures
+    ∙ in_take (reading_of_parts c.args.parts.now) _ _ _ c.args.address c.requires.typed c.requires.words v.within _ _ _ _ _ c.in-Take.ensures
+    (parts_in_range c.args.parts.now) c.ranges.address.fits refl c.if-place-bytes-2.true ∙ v.same
+
+pub loop-of-smaller : goal.loop-of-smaller
+loop-of-smaller c =
+    take_before (reading_of_parts c.args.parts.now) _ _ _ c.args.address c.requires.typed c.requires.words c.loop-of.invariant.within _ _ _ _ _
+    c.in-Take.ensures (parts_in_range c.args.parts.now) c.ranges.address.fits refl
+
+pub loop-of-preserved : goal.loop-of-preserved
+loop-of-preserved c =
+    let v = c.loop-of.invariant in
+    let y = typed_here _ _ _ c.requires.typed v.within c.in-Take.ensures in
+    record {
+      within = y.1.0;
+      same = past_take (reading_of_parts c.args.parts.now) _ _ _ c.args.address c.requires.typed c.requires.words v.within _ _ _ _ _
+          c.in-Take.ensures (parts_in_range c.args.parts.now) c.ranges.address.fits refl c.if-place-bytes-2.false ∙ v.same;
+    }
+
 pub returns-in_default : goal.returns-in_default
 returns-in_default c =
     let v = c.loop-of.invariant in
     no_bytes (reading_of_parts c.args.parts.now) _ _ _ c.args.address c.requires.typed v.within c.look.ensures c.in_default.not-Memory c.in_default.not-Store
-    c.in_default.not-Join ∙ v.same
+    c.in_default.not-Join c.in_default.not-Take ∙ v.same
