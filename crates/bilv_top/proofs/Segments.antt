@@ -5,7 +5,7 @@ use Rattle.std.specs.Prelude.{codes, ◌⊎◌, MatchOption}
 use Rattle.std.specs.List.Sorted.{IsStrictlyIncreasing}
 use Rattle.answer_spec.specs.FrameAnswers.{dialect_for, AfterFrames, frames_refused, frames_found, ByInvariants, ByQuestion, IsFrameReplayed, IsCertifiedWhole, IsReplayedWhole, IsScriptWhole, IsVerifiedWhole, too_long}
 use Rattle.answer_spec.specs.Outcomes.{AfterElf}
-use Rattle.answer_spec.proofs.Wholes.{entry_of_text, question_of, replayed_by_frames, without_invariants}
+use Rattle.answer_spec.proofs.Wholes.{entry_of_text, no_contracts_for, question_of, replayed_by_frames, without_invariants}
 use Rattle.bilv_spec.specs.Answers.{IsReported}
 use Rattle.bilv_spec.specs.Certified.{IsCertified}
 use Rattle.bilv_spec.specs.Files.{machine_of, program_of, IsFunctionAt}
@@ -22,9 +22,9 @@ use Rattle.clause_spec.specs.Checks.{text_limit}
 use Rattle.frame_spec.specs.FrameVerdict.{Whole}
 use Rattle.machine_spec.specs.Machine.{Machine}
 use Rattle.machine_spec.specs.StateText.{Layout}
-use Rattle.notes_spec.specs.FrameNotes.{IsFrameText}
+use Rattle.notes_spec.specs.FrameNotes.{FrameNotes, IsFrameText}
 use Rattle.notes_spec.specs.Programs.{vocabulary_of}
-use Rattle.notes_spec.specs.Scopes.{in_dialect}
+use Rattle.notes_spec.specs.Scopes.{Vocabulary, in_dialect}
 use Rattle.notes_spec.specs.Verified.{AfterImage, elf_refused, elf_accepted, IsAccepted, notes_large, notes_limit}
 use Rattle.notes_lang.specs.Named.{dialect_of}
 use Rattle.notes_lang.specs.Parsing.{layout_flags, layout_registers, layout_vocabulary}
@@ -57,6 +57,12 @@ over_file file layout f registers flags readable over = record {
       subst (λ r. AreOver r (machine_of o file).has_flag (notes_of f.found.notes)) (registers o)
       (subst (λ g. AreOver (layout_registers layout) g (notes_of f.found.notes)) (flags o) over);
 }
+
+-- notes that are read have no contracts
+pub uncontracted : (v : Vocabulary) (text : List ℕ) (n : FrameNotes) → IsFrameText (in_dialect (dialect_for text) v) text n →
+    IsFrameText (in_dialect (dialect_for text) v) text (record { notes = n.notes; invariants = n.invariants; contracts = [] })
+uncontracted v text n read =
+    record { is_notes = read.is_notes; invariants_are = read.invariants_are; contracts_are = read.contracts_are ∙ no_contracts_for v text n read }
 
 pub framed_found : (o : Options) (file bytes : List ℕ) (layout : forms.Layout) (d : dialects.Dialect) (f : Framed) →
     layout_vocabulary layout d ≡ in_dialect (dialect_of d) (vocabulary_of o file) →

@@ -29,7 +29,7 @@ use Rattle.term_spec.specs.WalkQuestions.{QuestionTerm, is_asked}
 use Rattle.frame_terms.specs.FrameCells.{Cells, TellsCells}
 use Rattle.frame_terms.specs.FrameClauseForm.{MakesTrue, PartInput, TellsClauses, bit_of, input_list}
 use Rattle.frame_terms.specs.FrameLayers.{IsFitting, IsLayered}
-use Rattle.frame_terms.specs.FrameStarts.{AreChoices, AreParts, GiveStarts, HasValues, IsWrittenAnchor, ShownEnds, ShownEndsAtHead, ShownEndsBy, shown_of, written_content}
+use Rattle.frame_terms.specs.FrameStarts.{AreCalls, AreChoices, AreParts, AreTold, GiveStarts, HasValues, IsWrittenAnchor, ShownEnds, ShownEndsAtHead, ShownEndsBy, WrittenParts, shown_of, written_content}
 use Rattle.frame_terms.specs.PassiveFrames.{IsWalkable, TellsQuestion, inputs_of, part_reading}
 use Rattle.frame_terms.proofs.FrameAsked.{frame_asked_is_right}
 use Rattle.frame_terms.proofs.FrameClauses.{frame_clauses_of_question}
@@ -37,15 +37,15 @@ use Rattle.frame_terms.proofs.FrameReadings.{gives_filled, of, of_in_range, same
 use Rattle.frame_terms.proofs.FrameValues.{frame_reading_makes_true}
 use Rattle.frame_terms.proofs.PartStarts.{frame_starts_are_shown, frame_values_give_starts}
 use Rattle.asked_bytes.specs.AskedBytes.{AreAdded}
-use Rattle.start_value.specs.Starts.{layout_of, written_of}
+use Rattle.start_value.specs.Starts.{layout_of}
 use Rattle.question_form.specs.declared.unrolled.Unrolled.{Unrolled}
 use Rattle.question_form.specs.Forms.{AreRootsFormed}
 use Rattle.question_form.specs.FrameViews.{anchor_at, frame_unrolled_of}
 use Rattle.unroller.specs.RootPoints.{BeginAtOwn, IsEntryFirst}
 use Rattle.frame_start.specs.declared.meaning.Segments.{Segments}
-use Rattle.frame_start.specs.Segments.{choices_at}
+use Rattle.frame_start.specs.Segments.{choices_at, written_parts}
 use Rattle.frame_rounds.specs.FrameGrounds.{AreSegments, IsFrameGround, ShowsQuestion, ShowsStart, shown_at}
-use Rattle.frame_rounds.proofs.FrameRoots.{entry_anchor, head_written, no_step, numbered, root_of_number}
+use Rattle.frame_rounds.proofs.FrameRoots.{entry_anchor, head_written, no_gift, none_stepped, numbered, root_of_number}
 
 -- a byte that is known by a test is one where the test says so
 known_test : (b : Bool) (x y : ℕ) → (if b then Some x else None) ≡ Some y → b ≡ true
@@ -103,19 +103,19 @@ module _ (un : Unrolled) (question : Question) (added : List ℕ) (t : QuestionT
         cells = subst (λ (h : Bool). TellsCells u h (h && asks_head question) t asked c) g.heads cells;
       }
 
-  told : TellsClauses u (has_heads f) c cnf
-  told = subst (λ (h : Bool). TellsClauses u h c cnf) g.heads clauses
+  tells : TellsClauses u (has_heads f) c cnf
+  tells = subst (λ (h : Bool). TellsClauses u h c cnf) g.heads clauses
 
   fitting : IsFitting u
   fitting = record {
     registers = walkable.sized.registers;
     flags = walkable.sized.flags;
-    gift_registers = λ i n x h l. absurd (no_step un un.points.items i x h.does);
-    gift_flags = λ i n x h l. absurd (no_step un un.points.items i x h.does);
+    gift_registers = λ i n x h l. absurd (no_gift f contracts k u g.unrolling g.alone i x h);
+    gift_flags = λ i n x h l. absurd (no_gift f contracts k u g.unrolling g.alone i x h);
   }
 
   of_question : AreOfQuestion f k question cnf
-  of_question = frame_clauses_of_question f contracts k question asked u t c layered fitting cnf told
+  of_question = frame_clauses_of_question f contracts k question asked u t c layered fitting cnf tells
 
   -- a refutation of the clauses is one of the question
   pub refutes : (log : List LogLine) → IsRefutation cnf.variables cnf.clauses log → Refutes f k question (record { clauses = cnf; log = log })
@@ -132,7 +132,7 @@ module _ (un : Unrolled) (question : Question) (added : List ℕ) (t : QuestionT
         same = same_but_reads u (has_heads f) x (part_reading u r).base;
         gives = gives_filled u (has_heads f) c layered.cells.formed (part_reading u r);
       }) in
-      let sat = told.extends.where_true (bits_of (input_list u (has_heads f) c) x) makes in
+      let sat = tells.extends.where_true (bits_of (input_list u (has_heads f) c) x) makes in
       refutation_sound cnf.variables cnf.clauses log refuted sat.0 sat.2
 
   -- a spent log of the clauses is one of the question
@@ -141,16 +141,15 @@ module _ (un : Unrolled) (question : Question) (added : List ℕ) (t : QuestionT
 
   -- what is shown of satisfying values
   module _ (v : ℕ → Bool) (sat : Satisfies v cnf.clauses) (s : Segments) (count : length s.choices.items ≡ length un.roots.items)
-      (parts_of : (x : TermReading) → HasValues u un.heads c v x →
-      AreParts u (un.heads && asks_head question) c x (written_of s.parts.entry) (written_of s.parts.head))
+      (parts_of : (x : TermReading) → HasValues u un.heads c v x → AreParts u (un.heads && asks_head question) c x (written_parts s.parts))
       (choices_of : (i : ℕ) → i < length un.roots.items → IsWrittenAnchor (un.heads && asks_head question) (anchor_at un i) →
-      (x : TermReading) → HasValues u un.heads c v x → AreChoices u (un.heads && asks_head question) (layout_of un.form) x (written_of s.parts.entry)
-      (written_of s.parts.head) (root_at u i) (choices_at s.choices.items i)) where
-    abbrev entry : Written
-    entry = written_of s.parts.entry
+      (x : TermReading) → HasValues u un.heads c v x → AreChoices u (un.heads && asks_head question) (layout_of un.form) x (written_parts s.parts)
+      (root_at u i) (choices_at s.choices.items i)) where
+    abbrev p : WrittenParts
+    p = written_parts s.parts
 
-    abbrev head : Written
-    head = written_of s.parts.head
+    abbrev entry : Written
+    entry = p.entry
 
     makes : MakesTrue u un.heads c v
     makes = clauses.extends.only v sat
@@ -164,31 +163,46 @@ module _ (un : Unrolled) (question : Question) (added : List ℕ) (t : QuestionT
     laid : IsLaidOut layout (inputs_of u)
     laid = subst (λ (z : Layout). IsLaidOut z (inputs_of u)) g.form (record { registers = refl; flags = refl })
 
-    parts : AreParts u of_head c x entry head
-    parts = subst (λ (h : Bool). AreParts u (h && asks_head question) c x entry head) g.heads (parts_of x has)
+    parts : AreParts u of_head c x p
+    parts = subst (λ (h : Bool). AreParts u (h && asks_head question) c x p) g.heads (parts_of x has)
 
     choices : (i : ℕ) → i < length un.roots.items → IsWrittenAnchor of_head (anchor_at un i) →
-        AreChoices u of_head layout x entry head (root_at u i) (choices_at s.choices.items i)
+        AreChoices u of_head layout x p (root_at u i) (choices_at s.choices.items i)
     choices i l h =
-        subst (λ (z : Layout). AreChoices u of_head z x entry head (root_at u i) (choices_at s.choices.items i)) g.form
-        (subst (λ (b : Bool). AreChoices u (b && asks_head question) (layout_of un.form) x entry head (root_at u i) (choices_at s.choices.items i)) g.heads
+        subst (λ (z : Layout). AreChoices u of_head z x p (root_at u i) (choices_at s.choices.items i)) g.form
+        (subst (λ (b : Bool). AreChoices u (b && asks_head question) (layout_of un.form) x p (root_at u i) (choices_at s.choices.items i)) g.heads
         (choices_of i l (subst (λ (b : Bool). IsWrittenAnchor (b && asks_head question) (anchor_at un i)) (sym g.heads) h) x has))
+
+    -- no contract is spoken of, and no contract step is made
+    told : (w : Whole) → AreTold w f u
+    told w = record {
+      contracts = λ a y e. absurd (none_stepped f g.alone a y e);
+      registers = λ a n y e h. absurd (none_stepped f g.alone a y e);
+      low = λ a n y e h. absurd (none_stepped f g.alone a y e);
+    }
+
+    calls : (root : Root) → AreCalls u of_head layout x p root []
+    calls root = record {
+      within = λ n d l. absurd (omega arith);
+      rise = λ i j d l m. absurd (omega arith);
+      follows = λ r of assumed step i d y at is. absurd (no_gift f contracts k u g.unrolling g.alone i y is);
+    }
 
     shown : (w : Whole) (i : ℕ) → i < length un.roots.items → IsWrittenAnchor of_head (anchor_at un i) → IsShown w f layout (shown_at un s i)
     shown w i l h =
-        frame_starts_are_shown f contracts k u g.unrolling layout laid g.steps of_head c x makes.in_range entry head parts w (anchor_at un i) (root_at u i)
-        (choices_at s.choices.items i) h (choices i l h)
+        frame_starts_are_shown f contracts k u g.unrolling layout laid g.steps of_head c x makes.in_range p parts w (told w) (anchor_at un i) (root_at u i)
+        (choices_at s.choices.items i) [] h (choices i l h) (calls (root_at u i))
 
-    starts : GiveStarts f k question u layout x entry head
+    starts : GiveStarts f k question u layout x p
     starts =
-        frame_values_give_starts f contracts k question asked u t c layered g.alone g.reads bytes layout laid cnf told v sat x
-        (subst (λ (h : Bool). HasValues u h c v x) g.heads has) entry head parts
+        frame_values_give_starts f contracts k question asked u t c layered g.reads bytes layout laid cnf tells v sat x
+        (subst (λ (h : Bool). HasValues u h c v x) g.heads has) p parts
 
     -- the start of a root that ends so
     shows_start : (Ends : Frame → ℕ → Start → Type 0) (i : ℕ) → i < length un.roots.items → IsWrittenAnchor of_head (anchor_at un i) →
-        ShownEnds f k u of_head layout x entry head Ends (root_at u i) (anchor_at un i) → ShowsStart f k layout Ends (shown_at un s i)
+        ShownEnds f k u of_head layout x p Ends (root_at u i) (anchor_at un i) → ShowsStart f k layout Ends (shown_at un s i)
     shows_start Ends i l h ends w =
-        let q = ends w (choices_at s.choices.items i) (choices i l h) in (shown w i l h, q.0, q.1)
+        let q = ends w (told w) (choices_at s.choices.items i) (choices i l h) [] (calls (root_at u i)) in (shown w i l h, q.0, q.1)
 
     at_entry : IsWrittenAnchor of_head (anchor_at un 0)
     at_entry = subst (λ (z : Anchor). IsWrittenAnchor of_head z) (sym (entry_anchor un first)) tt
@@ -198,12 +212,12 @@ module _ (un : Unrolled) (question : Question) (added : List ℕ) (t : QuestionT
         (root_of_number un walkable formed own f contracts k g.unrolling 0 first.0).1
 
     entry_shows : (Ends : Frame → ℕ → Start → Type 0) → ((root : Root) → IsRootOf f u root AtEntry →
-        ShownEnds f k u of_head layout x entry head Ends root AtEntry) → ShowsStart f k layout Ends (shown_at un s 0)
+        ShownEnds f k u of_head layout x p Ends root AtEntry) → ShowsStart f k layout Ends (shown_at un s 0)
     entry_shows Ends ends =
         shows_start Ends 0 first.0 at_entry
-        (subst (λ (z : Anchor). ShownEnds f k u of_head layout x entry head Ends (root_at u 0) z) (sym (entry_anchor un first)) (ends (root_at u 0) entry_root))
+        (subst (λ (z : Anchor). ShownEnds f k u of_head layout x p Ends (root_at u 0) z) (sym (entry_anchor un first)) (ends (root_at u 0) entry_root))
 
-    head_shows : (Ends : Frame → ℕ → Start → Type 0) → asks_head question ≡ true → ShownEndsAtHead f k u of_head layout x entry head Ends →
+    head_shows : (Ends : Frame → ℕ → Start → Type 0) → asks_head question ≡ true → ShownEndsAtHead f k u of_head layout x p Ends →
         (i : ℕ) × (i < length un.roots.items) × ((stack : List ℕ) × (a : ℕ) × (anchor_at un i ≡ AtHead stack a))
         × ShowsStart f k layout Ends (shown_at un s i)
     head_shows Ends asks_it (stack, a, root, inside, is, ends) =
@@ -213,8 +227,8 @@ module _ (un : Unrolled) (question : Question) (added : List ℕ) (t : QuestionT
           q.1,
           (stack, a, sym q.3),
           shows_start Ends q.0 q.1 written
-              (subst (λ (z : Anchor). ShownEnds f k u of_head layout x entry head Ends (root_at u q.0) z) q.3
-              (subst (λ (z : Root). ShownEnds f k u of_head layout x entry head Ends z (AtHead stack a)) q.2 ends)),
+              (subst (λ (z : Anchor). ShownEnds f k u of_head layout x p Ends (root_at u q.0) z) q.3
+              (subst (λ (z : Root). ShownEnds f k u of_head layout x p Ends z (AtHead stack a)) q.2 ends)),
         )
 
     -- the entry as it is written, without choices
@@ -223,7 +237,7 @@ module _ (un : Unrolled) (question : Question) (added : List ℕ) (t : QuestionT
 
     entry_with : IsWritten layout (is_known_at f.program) (record entry { choices = choices_at s.choices.items 0 })
     entry_with =
-        (subst (λ (z : Anchor). IsShown whole f layout (shown_of entry head z (choices_at s.choices.items 0))) (entry_anchor un first)
+        (subst (λ (z : Anchor). IsShown whole f layout (shown_of p z (choices_at s.choices.items 0) [])) (entry_anchor un first)
         (shown whole 0 first.0 at_entry)).entry
 
     entry_written : IsWritten layout (is_known_at f.program) entry
@@ -251,7 +265,7 @@ module _ (un : Unrolled) (question : Question) (added : List ℕ) (t : QuestionT
         IsEntryState f.program (start_of layout f.program.entry (λ a. known_byte f.program (word 32 a)) entry).state
     entry_state h = subst (λ (m : Memory). IsEntryState f.program (state_with m)) (fun_ext entry_byte) h
 
-    shows_by : (q : Question) → question ≡ q → ShownEndsBy f k u of_head layout x entry head q → ShowsQuestion f k layout un s q
+    shows_by : (q : Question) → question ≡ q → ShownEndsBy f k u of_head layout x p q → ShowsQuestion f k layout un s q
     shows_by EntryQuestion e ends = (entry_written, entry_state ends)
     shows_by FailQuestion e ends = (entry_anchor un first, entry_shows RunFails ends)
     shows_by StepQuestion e ends = (let h = head_shows RunFails (ap asks_head e) ends in (h.0, (h.1, h.2), h.3))

@@ -1,41 +1,46 @@
 -- The roots of an unrolled frame as a value, and their anchors.
-use Rattle.std.proofs.Common.{◌≡◌, refl, ap, sym, ◌∙◌, subst, arith, ℕ, zero, suc, ◌<◌, Bool, true, List, [], ◌∷◌, Option, Some, None, length}
+use Rattle.std.proofs.Common.{◌≡◌, refl, ap, sym, ◌∙◌, subst, arith, ℕ, zero, suc, ◌<◌, Bool, true, false, List, [], ◌∷◌, Option, Some, None, length}
 use Rattle.std.specs.Prelude.{◌&&◌, Contains, slice_index_or}
 use Rattle.std.specs.Global.{Vec}
 use Rattle.std.proofs.lemmas.List.{get_or_default, length-map}
 use Rattle.program_points.specs.declared.values.Root as listed
 use Rattle.program_points.specs.Listed.{anchor_of}
 use Rattle.program_points.specs.Tables.{stacks_of}
-use Rattle.frame_spec.specs.Frames.{Contract, Frame}
-use Rattle.frame_spec.specs.FramePoints.{Anchor, AtEntry, AtHead, IsAnchor, first_of, has_heads}
-use Rattle.frame_spec.specs.FrameWalk.{Gift, Root, StepsOver, no_root, root_at}
-use Rattle.frame_spec.specs.FrameWalk as walks
-use Rattle.frame_spec.specs.FrameUnrolling.{IsRootOf, IsUnrolling}
+use Rattle.machine_spec.specs.Machine.{Row}
+use Rattle.bilv_spec.specs.Points.{file_row}
+use Rattle.frame_spec.specs.Frames.{Contract, Frame, contract_at}
+use Rattle.frame_spec.specs.FramePoints.{Anchor, AtEntry, AtHead, IsAnchor, first_of, has_heads, is_cut}
+use Rattle.frame_spec.specs.FrameWalk.{Gift, Root, UnrolledProgram, no_root, point_at, root_at}
+use Rattle.frame_spec.specs.FrameUnrolling.{DoesAddress, DoesBy, DoesContract, IsRootOf, IsUnrolling}
 use Rattle.frame_spec.proofs.OfSegments.{heads}
 use Rattle.frame_laws.proofs.FrameAnswers.{head_anchor}
 use Rattle.frame_terms.specs.FrameStarts.{IsWrittenAnchor}
-use Rattle.frame_terms.specs.PassiveFrames.{IsWalkable}
-use Rattle.bil_ast.specs.declared.statements.Stmt.{Stmt}
-use Rattle.question_form.specs.declared.unrolled.Deed.{Deed}
-use Rattle.question_form.specs.declared.unrolled.Deed.TheVariants.{Row, Arrival}
-use Rattle.question_form.specs.declared.unrolled.Point.{Point}
+use Rattle.frame_terms.specs.PassiveFrames.{IsGiftAt, IsWalkable}
 use Rattle.question_form.specs.declared.unrolled.Unrolled.{Unrolled}
 use Rattle.question_form.specs.Forms.{AreRootsFormed}
-use Rattle.question_form.specs.FrameViews.{action_of, anchor_at, frame_unrolled_of, points_of, root_of}
-use Rattle.question_form.specs.Views.{code_of}
+use Rattle.question_form.specs.FrameViews.{anchor_at, frame_unrolled_of, root_of}
 use Rattle.unroller.specs.RootPoints.{BeginAtOwn, IsEntryFirst}
 use Rattle.frame_start.proofs.ChosenSteps.{root_anchor, root_inside}
 
--- no point steps over a call
-steps_by : (deed : Deed) (list : Option (Vec Stmt)) (x : Gift) → action_of deed list ≡ StepsOver x → ⊥
-steps_by Row None x e = absurd (cc)
-steps_by Row (Some list) x e = absurd (cc)
-steps_by Arrival list x e = absurd (cc)
+-- where no contract is stepped over, none stands at an address
+pub none_stepped : (f : Frame) → f.stepped ≡ [] → (a : ℕ) (x : Contract) → ¬ (contract_at f.stepped a ≡ Some x)
+none_stepped f alone a x e = let n = sym (ap (λ (z : List Contract). contract_at z a) alone) ∙ e in cc
 
-pub no_step : (un : Unrolled) (qs : List Point) (i : ℕ) (x : Gift) → (slice_index_or (points_of un qs) i walks.no_point).does ≡ StepsOver x → ⊥
-no_step un [] i x e = absurd (cc)
-no_step un (q ∷ qs) zero x e = steps_by q.deed (code_of un q).list x e
-no_step un (q ∷ qs) (suc i) x e = no_step un qs i x e
+-- and no point makes a contract step
+pub no_gift : (f : Frame) (contracts : List Contract) (k : ℕ) (u : UnrolledProgram) → IsUnrolling f contracts k u → f.stepped ≡ [] → (i : ℕ) (g : Gift) →
+    ¬ IsGiftAt u i g
+no_gift f contracts k u un alone i g at =
+    by (point_at u i).point.contract (is_cut f (point_at u i).point) (un.places i at.place).does
+  where
+    by_address : (o : Option Row) → DoesAddress f contracts k u i (point_at u i) o → ⊥
+    by_address None does = let e = sym does.0 ∙ at.does in cc
+    by_address (Some row) does = let e = sym does.3.lists.1 ∙ at.does in cc
+
+    by : (contract cut : Bool) → DoesBy contract cut f contracts k u i (point_at u i) → ⊥
+    by true cut does =
+        subst (λ (z : List Contract). DoesContract f k u i (point_at u i) (contract_at z (point_at u i).point.at) (point_at u i).point.stack) alone does
+    by false true does = let e = sym does.0 ∙ at.does in cc
+    by false false does = by_address (file_row f.program (point_at u i).point.at) does
 
 first_anchor : (entry : ℕ) (anchor : Anchor) → (first_of entry anchor).anchor ≡ anchor
 first_anchor entry AtEntry = refl

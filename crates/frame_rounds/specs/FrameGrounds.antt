@@ -21,7 +21,7 @@ use Rattle.start_value.specs.Starts.{layout_of, written_of}
 use Rattle.question_form.specs.declared.unrolled.Unrolled.{Unrolled}
 use Rattle.question_form.specs.FrameViews.{anchor_at, frame_unrolled_of}
 use Rattle.frame_start.specs.declared.meaning.Segments.{Segments}
-use Rattle.frame_start.specs.Segments.{choices_at}
+use Rattle.frame_start.specs.Segments.{choices_at, written_parts}
 use Rattle.frame_rounds.specs.declared.answers.FrameAnswered.{FrameAnswered}
 use Rattle.frame_rounds.specs.declared.answers.FrameAnswered.TheVariants.{Sat, Refuted, Spent}
 
@@ -38,9 +38,9 @@ pub record IsFrameGround (f : Frame) (contracts : List Contract) (k : ℕ) (layo
   pub form : layout_of u.form ≡ layout
   pub steps : length (frame_unrolled_of u).points ≤ last_step + 1
 
--- what is shown of the segment of the root of a number
+-- what is shown of the segment of the root of a number; a frame that steps over no contract makes no contract step
 abbrev pub shown_at : Unrolled → Segments → ℕ → Shown
-shown_at u s i = shown_of (written_of s.parts.entry) (written_of s.parts.head) (anchor_at u i) (choices_at s.choices.items i)
+shown_at u s i = shown_of (written_parts s.parts) (anchor_at u i) (choices_at s.choices.items i) []
 
 -- What is shown can be written, and is a start whose run ends like this. It has no contract steps, so that no contract of the notes matters.
 abbrev pub ShowsStart : Frame → ℕ → Layout → (Frame → ℕ → Start → Type 0) → Shown → Type 0

@@ -1,9 +1,12 @@
-pub mod PartInputs
+pub mod CallSteps
 pub mod CellInputs
-pub mod WrittenParts
-pub mod WholeValues
-pub mod KeptBytes
+pub mod ChangedSets
 pub mod ChosenSteps
+pub mod GiftInputs
+pub mod KeptBytes
 pub mod MetWords
+pub mod PartInputs
 pub mod RootChoices
 pub mod SegmentLists
+pub mod WholeValues
+pub mod WrittenParts

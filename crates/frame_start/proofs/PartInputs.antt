@@ -1,6 +1,9 @@
 -- What values give a part is what a reading has that has the values.
-use Rattle.std.proofs.Common.{◌≡◌, ap, sym, ◌∙◌, arith, ℕ, ◌+◌, ◌-◌, ◌*◌, ◌%◌, ◌^◌, ◌<◌, ◌≤◌, Bool, List, length}
+use Rattle.std.proofs.Common.{◌≡◌, ap, sym, ◌∙◌, arith, ℕ, ◌+◌, ◌-◌, ◌*◌, ◌%◌, ◌^◌, ◌<◌, ◌≤◌, Bool, List, length, bit_xor}
 use Rattle.std.specs.Prelude.{slice_index}
+use Rattle.word_spec.specs.Memory.{memory_of}
+use Rattle.term_dag.specs.declared.values.Reading.{Reading}
+use Rattle.term_dag.specs.Readings.{reading_of}
 use Rattle.term_spec.specs.Terms.{TermReading, InRange}
 use Rattle.term_spec.specs.ClauseForm.{bits_from}
 use Rattle.bit_blast.specs.declared.input_places.InputPlaces.{InputPlaces}
@@ -42,3 +45,12 @@ module _ (v : ℕ → Bool) (x : TermReading) (p : InputPlaces) (part : ℕ) (ra
   choice_is cs each i k drawn =
       small_choice (slice_index cs i) (x.choice i) (range.choice i)
       (each i drawn.0 ∙ ap (choice_by p v) drawn.1 ∙ bits_are v (p.first_choice + 2 * k) 2 ∙ sym (at.choices i k drawn))
+
+-- and a memory
+small_byte : (a b : ℕ) → a < 256 → a ≡ b → a % 256 ≡ b
+small_byte a b l e = omega arith
+
+pub memory_is : (r : Reading) (entries : List (ℕ × ℕ)) → r.memory.entries ≡ entries → r.fill ≡ 0 → (a b : ℕ) → memory_of entries a < 256 →
+    memory_of entries a ≡ b → (reading_of r).mem 0 a ≡ b
+memory_is r entries e f a b l h =
+    ap (λ z. bit_xor (z % 256) (memory_of r.memory.entries a % 256)) f ∙ ap (λ z. memory_of z a % 256) e ∙ small_byte (memory_of entries a) b l h

@@ -1,22 +1,26 @@
 -- The choices of a root from the parts of values.
 use Rattle.std.proofs.Common.{◌≡◌, inl, inr, refl, ap, sym, ◌∙◌, subst, arith, ℕ, zero, suc, ◌+◌, ◌*◌, ◌<◌, ◌≤◌, [], ◌∷◌, List, Option, Some, None, Bool, true, false, length, map}
-use Rattle.std.specs.Prelude.{slice_index, slice_index_or, if◌then◌else◌}
+use Rattle.std.specs.Prelude.{Contains, slice_index, slice_index_or, if◌then◌else◌}
 use Rattle.std.proofs.lemmas.Bool.{cases_lt}
 use Rattle.std.proofs.lemmas.Option.{slice_get_within}
 use Rattle.word_spec.specs.Memory.{byte_in}
 use Rattle.word_spec.specs.RowFiles.{from_to}
-use Rattle.word_spec.specs.State.{State, Written}
+use Rattle.word_spec.specs.State.{State}
 use Rattle.clause_spec.specs.Clauses.{valuation}
 use Rattle.bilv_spec.proofs.Pigeons.{at_in}
 use Rattle.bilv_spec.proofs.PointsInGraph.{of_filter}
-use Rattle.frame_spec.specs.Frames.{content_of}
+use Rattle.frame_spec.specs.Frames.{Content}
 use Rattle.frame_spec.specs.FrameQuestions as questions
 use Rattle.frame_spec.specs.FrameQuestions.{IsReading}
-use Rattle.frame_spec.specs.FrameWalk.{UnrolledPoint, Root, Walk, WalkIsAt, point_at, root_at, walk_of, is_assumed}
+use Rattle.frame_spec.specs.FrameWalk.{Gift, UnrolledPoint, Root, Walk, WalkIsAt, point_at, root_at, walk_of, is_assumed}
 use Rattle.frame_spec.specs.FrameWalk as walks
 use Rattle.term_spec.specs.Terms.{TermReading}
 use Rattle.frame_terms.specs.FrameClauseForm.{drawn_places}
-use Rattle.frame_terms.specs.FrameStarts.{HasValues, AreChoices, IsWrittenAnchor, place_choice}
+use Rattle.frame_terms.specs.FrameStarts.{HasValues, AreCalls, AreChoices, IsCallOf, IsReadingOfParts, IsWrittenAnchor, WrittenParts, call_of, place_choice}
+use Rattle.frame_terms.specs.PassiveFrames.{IsGiftAt}
+use Rattle.term_dag.specs.declared.values.Reading as inputs
+use Rattle.term_dag.proofs.Bytes.{in_range}
+use Rattle.bilv_spec.proofs.PointSteps.{in_map}
 use Rattle.term_dag.specs.declared.nodes.Term.{Term}
 use Rattle.start_value.specs.Starts.{layout_of}
 use Rattle.question_form.specs.FrameQuestions.{frame_passive_of, heads_of_question, is_of_heads}
@@ -33,8 +37,10 @@ use Rattle.bit_blast.proofs.InputNumbers.{bits_are}
 use Rattle.bit_blast.proofs.StartInputs.{count_few, mapped_get}
 use Rattle.bit_blast.proofs.StepChoices.{any_default}
 use Rattle.frame_start.specs.Files.{UnderValues}
-use Rattle.frame_start.specs.Met.{HasMetWords, is_met_of, shown_reading}
-use Rattle.frame_start.specs.Segments.{IsFrameAskable}
+use Rattle.frame_start.specs.Met.{HasMetWords, call_steps, head_by, is_gift, is_met_of, shown_reading}
+use Rattle.frame_start.specs.Segments.{IsFrameAskable, calls_by}
+use Rattle.frame_start.proofs.CallSteps.{IsStep, all_calls, calls_rise, step_listed, steps_are, steps_rise}
+use Rattle.frame_start.proofs.ChangedSets.{gift_there, is_step}
 use Rattle.frame_start.proofs.ChosenSteps.{on_walk, points_long, root_anchor, same_assumed, same_walk}
 
 past : (xs : List ℕ) (i : ℕ) → length xs ≤ i → slice_index xs i ≡ 0
@@ -111,12 +117,12 @@ module _ (c : Celled) (values : List Bool) (p : InputPlaces)
     | inr l ↦ sym (ap (λ (q : UnrolledPoint). if q.draws then x.choice i else 0) (behind (frame_of_cells c).points i (omega arith)))
   ]
 
-  pub undrawn_are : (entry head : Written) (n : ℕ) → AreChoices (frame_of_cells c) (is_of_heads c.question.now)
-      (layout_of c.question.now.passive.now.unrolled.now.form) x entry head (root_at (frame_of_cells c) n) []
-  undrawn_are entry head n = record {
+  pub undrawn_are : (w : WrittenParts) (n : ℕ) → AreChoices (frame_of_cells c) (is_of_heads c.question.now)
+      (layout_of c.question.now.passive.now.unrolled.now.form) x w (root_at (frame_of_cells c) n) []
+  undrawn_are w n = record {
     within = λ i d l. absurd (omega arith);
     rise = λ i j d l m. absurd (omega arith);
-    follows = λ r isr assumed step i d w. none_drawn i;
+    follows = λ r isr assumed step i d e. none_drawn i;
   }
 
 -- the points have terms
@@ -139,21 +145,17 @@ module _ (c : Celled) (can : IsFrameAskable c.question.now.passive.now) where
       ∙ ap (λ (t : Term). t.0) (any_default c.question.now.passive.now.met.items i (record { 0 = 0 }) d m) in
       omega arith
 
-module _ (c : Celled) (can : IsFrameAskable c.question.now.passive.now) (values : List Bool) (entry head : Written) (n : ℕ)
+module _ (c : Celled) (can : IsFrameAskable c.question.now.passive.now) (values : List Bool) (w : WrittenParts) (n : ℕ)
     (l : n < length c.question.now.passive.now.unrolled.now.roots.items)
     (written : IsWrittenAnchor (is_of_heads c.question.now) (anchor_at c.question.now.passive.now.unrolled.now n)) where
-  reading_by : (b : Bool) (r : questions.Reading) → IsReading r → IsReading (shown_reading b r)
-  reading_by true r h = h
-  reading_by false r h = record {
+  reading_by : (b : Bool) (head : inputs.Reading) (r : questions.Reading) → IsReading r → IsReading (shown_reading b head r)
+  reading_by true head r h = h
+  reading_by false head r h = record {
     state = h.state;
-    head = record { regs = h.state.regs; flags = h.state.flags; mem = h.state.mem };
+    head = record { regs = (in_range head).regs 0; flags = (in_range head).flags 0; mem = (in_range head).mem 0 };
     choice = h.choice;
     given = h.given;
   }
-
-  state_by : (b : Bool) (r : questions.Reading) → (shown_reading b r).state ≡ r.state
-  state_by true r = refl
-  state_by false r = refl
 
   entry_anchor : is_of_heads c.question.now ≡ false →
       IsWrittenAnchor false (point_at (frame_of_cells c) (root_at (frame_of_cells c) n).place).point.anchor
@@ -161,41 +163,103 @@ module _ (c : Celled) (can : IsFrameAskable c.question.now.passive.now) (values 
       subst (IsWrittenAnchor false) (sym (root_anchor c.question.now.passive.now.unrolled.now can.walkable can.roots can.own n l))
       (subst (λ (b : Bool). IsWrittenAnchor b (anchor_at c.question.now.passive.now.unrolled.now n)) t written)
 
-  assumed_by : (b : Bool) → is_of_heads c.question.now ≡ b → (r : questions.Reading) → is_assumed (frame_of_cells c) r (root_at (frame_of_cells c) n) ≡ true →
-      is_assumed (frame_of_cells c) (shown_reading b r) (root_at (frame_of_cells c) n) ≡ true
-  assumed_by true t r h = h
-  assumed_by false t r h = same_assumed (frame_of_cells c) r (content_of r.state) (root_at (frame_of_cells c) n) (entry_anchor t) ∙ h
+  assumed_by : (b : Bool) → is_of_heads c.question.now ≡ b → (head : inputs.Reading) (r : questions.Reading) →
+      is_assumed (frame_of_cells c) r (root_at (frame_of_cells c) n) ≡ true →
+      is_assumed (frame_of_cells c) (shown_reading b head r) (root_at (frame_of_cells c) n) ≡ true
+  assumed_by true t head r h = h
+  assumed_by false t head r h =
+      same_assumed (frame_of_cells c) r (head_by false r head) (root_at (frame_of_cells c) n) (entry_anchor t) ∙ h
 
-  walk_by : (b : Bool) → is_of_heads c.question.now ≡ b → (r : questions.Reading) (step : ℕ) (w : Walk) →
-      walk_of (frame_of_cells c) r (root_at (frame_of_cells c) n) step ≡ w →
-      walk_of (frame_of_cells c) (shown_reading b r) (root_at (frame_of_cells c) n) step ≡ w
-  walk_by true t r step w h = h
-  walk_by false t r step w h = same_walk (frame_of_cells c) r (content_of r.state) (root_at (frame_of_cells c) n) (entry_anchor t) step ∙ h
+  walk_by : (b : Bool) → is_of_heads c.question.now ≡ b → (head : inputs.Reading) (r : questions.Reading) (step : ℕ) (e : Walk) →
+      walk_of (frame_of_cells c) r (root_at (frame_of_cells c) n) step ≡ e →
+      walk_of (frame_of_cells c) (shown_reading b head r) (root_at (frame_of_cells c) n) step ≡ e
+  walk_by true t head r step e h = h
+  walk_by false t head r step e h =
+      same_walk (frame_of_cells c) r (head_by false r head) (root_at (frame_of_cells c) n) (entry_anchor t) step ∙ h
 
-  pub chosen_are : (ws : List ℕ) → HasMetWords c values entry head ws → (chosen : List ℕ) →
+  abbrev met : List ℕ → ℕ → Bool
+  met ws = is_met_of c.question.now.passive.now.unrolled.now.points.items n c.question.now.passive.now.met.items ws
+
+  -- where the walk is, the point is met, behind so many others
+  step_of : (ws : List ℕ) → HasMetWords c values w ws → (x : TermReading) →
+      HasValues (frame_of_cells c) (heads_of_question c.question.now) (frame_cells_of c) (valuation values) x → (r : questions.Reading) →
+      IsReadingOfParts (frame_of_cells c) (is_of_heads c.question.now) (layout_of c.question.now.passive.now.unrolled.now.form) x w r →
+      is_assumed (frame_of_cells c) r (root_at (frame_of_cells c) n) ≡ true → (step i : ℕ) (d : Content) →
+      walk_of (frame_of_cells c) r (root_at (frame_of_cells c) n) step ≡ WalkIsAt i d →
+      (i < length c.question.now.passive.now.unrolled.now.points.items)
+      × (is_met_of c.question.now.passive.now.unrolled.now.points.items n c.question.now.passive.now.met.items ws i ≡ true)
+      × (count_met (is_met_of c.question.now.passive.now.unrolled.now.points.items n c.question.now.passive.now.met.items ws) i ≡ step)
+  step_of ws words x hx r isr assumed step i d e =
+      on_walk c.question.now.passive.now.unrolled.now can.walkable can.roots can.own (heads_of_question c.question.now)
+      (frame_passive_of c.question.now.passive.now) can.passive c.question.now.passive.now.met.items refl ws
+      (shown_reading (is_of_heads c.question.now) words.0 r) (reading_by (is_of_heads c.question.now) words.0 r isr.reading)
+      (ap (λ (s : State). s.pc) isr.state) (words.1 x hx r isr) n l
+      (assumed_by (is_of_heads c.question.now) refl words.0 r assumed) step i d
+      (walk_by (is_of_heads c.question.now) refl words.0 r step (WalkIsAt i d) e)
+
+  within_points : (ws : List ℕ) → count_met (is_met_of c.question.now.passive.now.unrolled.now.points.items n c.question.now.passive.now.met.items ws)
+      (length c.question.now.passive.now.met.items) ≤ length (frame_of_cells c).points
+  within_points ws =
+      let b = count_few (is_met_of c.question.now.passive.now.unrolled.now.points.items n c.question.now.passive.now.met.items ws)
+      (length c.question.now.passive.now.met.items) in
+      let e = met_long c can in
+      let f = points_long c.question.now.passive.now.unrolled.now c.question.now.passive.now.unrolled.now.points.items in
+      omega arith
+
+  pub chosen_are : (ws : List ℕ) → HasMetWords c values w ws → (chosen : List ℕ) →
       UnderValues c values (λ x. (i : ℕ) → i < length (frame_of_cells c).points → slice_index chosen i ≡ place_choice (frame_of_cells c) x i) →
       (xs : List (ℕ × ℕ)) → steps.AreChoices (is_met_of c.question.now.passive.now.unrolled.now.points.items n c.question.now.passive.now.met.items ws)
       (slice_index chosen) (length c.question.now.passive.now.met.items)
       (count_met (is_met_of c.question.now.passive.now.unrolled.now.points.items n c.question.now.passive.now.met.items ws)
       (length c.question.now.passive.now.met.items)) xs →
       UnderValues c values (λ x. AreChoices (frame_of_cells c) (is_of_heads c.question.now)
-      (layout_of c.question.now.passive.now.unrolled.now.form) x entry head (root_at (frame_of_cells c) n) xs)
+      (layout_of c.question.now.passive.now.unrolled.now.form) x w (root_at (frame_of_cells c) n) xs)
   chosen_are ws words chosen place xs h x hx = record {
-    within = λ i d m. (let k = h.within i d m in
-        let a = k.0 in
-        let b = count_few (is_met_of c.question.now.passive.now.unrolled.now.points.items n c.question.now.passive.now.met.items ws)
-        (length c.question.now.passive.now.met.items) in
-        let e = met_long c can in
-        let f = points_long c.question.now.passive.now.unrolled.now c.question.now.passive.now.unrolled.now.points.items in
-        (omega arith, k.1, k.2));
+    within = λ i d m. (let k = h.within i d m in let a = k.0 in let b = within_points ws in (omega arith, k.1, k.2));
     rise = h.rise;
-    follows = λ r isr assumed step i d e. (let q = on_walk c.question.now.passive.now.unrolled.now can.walkable can.roots can.own (heads_of_question c.question.now)
-        (frame_passive_of c.question.now.passive.now) can.passive c.question.now.passive.now.met.items refl ws (shown_reading (is_of_heads c.question.now) r)
-        (reading_by (is_of_heads c.question.now) r isr.reading)
-        (ap (λ (s : State). s.pc) (state_by (is_of_heads c.question.now) r ∙ isr.state)) (words x hx r isr) n l
-        (assumed_by (is_of_heads c.question.now) refl r assumed) step i d (walk_by (is_of_heads c.question.now) refl r step (WalkIsAt i d) e) in
+    follows = λ r isr assumed step i d e. (let q = step_of ws words x hx r isr assumed step i d e in
         let k : i < length (frame_of_cells c).points
         = (let a = q.0 in let b = points_long c.question.now.passive.now.unrolled.now c.question.now.passive.now.unrolled.now.points.items in omega arith) in
         let m : i < length c.question.now.passive.now.met.items = (let a = q.0 in let b = met_long c can in omega arith) in
         ap (byte_in xs) (sym q.2) ∙ h.gives i m q.1 ∙ place x hx i k);
   }
+
+  -- so the contract steps
+  called_step : (ws : List ℕ) (z : ℕ × ℕ) → IsStep (is_met_of c.question.now.passive.now.unrolled.now.points.items n c.question.now.passive.now.met.items ws)
+      (is_gift c.question.now.passive.now.unrolled.now.points.items) (length c.question.now.passive.now.met.items) z →
+      IsCallOf (frame_of_cells c) w (call_of (frame_of_cells c) w z.0 z.1)
+  called_step ws z s =
+      let k : z.1 < length c.question.now.passive.now.unrolled.now.points.items = (let a = s.place in let b = met_long c can in omega arith) in
+      let g = gift_there c.question.now.passive.now.unrolled.now z.1 k s.gives in
+      (z.1, g.0, g.1, (let a = s.step in let b = within_points ws in omega arith), refl)
+
+  pub called_are : (ws : List ℕ) → HasMetWords c values w ws → (xs : List (ℕ × ℕ)) →
+      xs ≡ call_steps (is_met_of c.question.now.passive.now.unrolled.now.points.items n c.question.now.passive.now.met.items ws)
+      (is_gift c.question.now.passive.now.unrolled.now.points.items) (length c.question.now.passive.now.met.items) →
+      UnderValues c values (λ x. AreCalls (frame_of_cells c) (is_of_heads c.question.now)
+      (layout_of c.question.now.passive.now.unrolled.now.form) x w (root_at (frame_of_cells c) n) (calls_by (frame_of_cells c) w xs))
+  called_are ws words xs e x hx =
+      let met = is_met_of c.question.now.passive.now.unrolled.now.points.items n c.question.now.passive.now.met.items ws in
+      let gift = is_gift c.question.now.passive.now.unrolled.now.points.items in
+      let many = length c.question.now.passive.now.met.items in
+      subst (λ (ys : List (ℕ × ℕ)). AreCalls (frame_of_cells c) (is_of_heads c.question.now)
+      (layout_of c.question.now.passive.now.unrolled.now.form) x w (root_at (frame_of_cells c) n) (calls_by (frame_of_cells c) w ys)) (sym e)
+      (record {
+        within = all_calls (frame_of_cells c) w (call_steps met gift many) (λ z h. called_step ws z (steps_are met gift many z h));
+        rise = calls_rise (frame_of_cells c) w (call_steps met gift many) (steps_rise met gift many);
+        follows = λ r isr assumed step i d g at there. (let q = step_of ws words x hx r isr assumed step i d at in
+            let m : i < length c.question.now.passive.now.met.items = (let a = q.0 in let b = met_long c can in omega arith) in
+            in_map (λ (z : ℕ × ℕ). call_of (frame_of_cells c) w z.0 z.1) (call_steps met gift many) (step, i)
+            (subst (λ (k : ℕ). Contains (call_steps met gift many) (k, i)) q.2
+            (step_listed met gift many i m q.1 (is_step c.question.now.passive.now.unrolled.now i g there))));
+      })
+
+-- where no contract step is made there is none
+pub uncalled_are : (c : Celled) → ((i : ℕ) (g : Gift) → IsGiftAt (frame_of_cells c) i g → ⊥) → (x : TermReading) (w : WrittenParts) (n : ℕ) →
+    AreCalls (frame_of_cells c) (is_of_heads c.question.now)
+    (layout_of c.question.now.passive.now.unrolled.now.form) x w (root_at (frame_of_cells c) n) []
+uncalled_are c none x w n = record {
+  within = λ i d l. absurd (omega arith);
+  rise = λ i j d l m. absurd (omega arith);
+  follows = λ r isr assumed step i d g e there. absurd (none i g there);
+}

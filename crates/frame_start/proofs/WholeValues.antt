@@ -16,13 +16,13 @@ use Rattle.frame_start.specs.Files.{AreBroken, AreOne, AreWhole, ForSomeValues, 
 use Rattle.frame_start.specs.Reads.{HaveReads}
 
 module _ (c k : Celled) (values bits : List Bool) (same : (k ≡ c) × (bits ≡ values)) (r : Reads)
-    (have : UnderValues k bits (λ x. HaveReads (frame_cells_of k) (is_of_heads k.question.now) x r)) (items : List ℕ)
-    (tells : (cells : Cells) (of_head : Bool) (x : TermReading) → HaveReads cells of_head x r → (a : ℕ) →
+    (have : UnderValues k bits (λ x. HaveReads (frame_of_cells k) (frame_cells_of k) (is_of_heads k.question.now) x r)) (items : List ℕ)
+    (tells : (cells : Cells) (of_head : Bool) (x : TermReading) → HaveReads (frame_of_cells c) cells of_head x r → (a : ℕ) →
     Contains items a ↔ IsBroken (frame_of_cells c) of_head cells x a) where
-  have_reads : UnderValues c values (λ x. HaveReads (frame_cells_of c) (is_of_heads c.question.now) x r)
+  have_reads : UnderValues c values (λ x. HaveReads (frame_of_cells c) (frame_cells_of c) (is_of_heads c.question.now) x r)
   have_reads =
-      subst (λ (z : List Bool). UnderValues c z (λ x. HaveReads (frame_cells_of c) (is_of_heads c.question.now) x r)) same.1
-      (subst (λ (z : Celled). UnderValues z bits (λ x. HaveReads (frame_cells_of z) (is_of_heads z.question.now) x r)) same.0 have)
+      subst (λ (z : List Bool). UnderValues c z (λ x. HaveReads (frame_of_cells c) (frame_cells_of c) (is_of_heads c.question.now) x r)) same.1
+      (subst (λ (z : Celled). UnderValues z bits (λ x. HaveReads (frame_of_cells z) (frame_cells_of z) (is_of_heads z.question.now) x r)) same.0 have)
 
   told : UnderValues c values (λ x. (a : ℕ) → Contains items a ↔ IsBroken (frame_of_cells c) (is_of_heads c.question.now) (frame_cells_of c) x a)
   told x hx = tells (frame_cells_of c) (is_of_heads c.question.now) x (have_reads x hx)

@@ -1,6 +1,6 @@
 -- Parts of values as they are written, and the reads that go against the file.
 use Rattle.std.proofs.Common.{◌≡◌, inl, inr, refl, ap, sym, ◌∙◌, subst, arith, ℕ, zero, suc, ◌+◌, ◌-◌, ◌*◌, ◌^◌, ◌<◌, ◌≤◌, [], ◌∷◌, ◌++◌, List, Option, Some, None, Bool, true, false, map, get_or}
-use Rattle.std.specs.Prelude.{◌↔◌, ◌==◌, ◌&&◌, not, All, Contains, filter, nat_lt, slice_index, if◌then◌else◌}
+use Rattle.std.specs.Prelude.{◌↔◌, ◌==◌, ◌&&◌, not, All, Contains, filter, length, nat_eq, nat_lt, slice_index, slice_index_or, if◌then◌else◌}
 use Rattle.std.proofs.lemmas.Bool.{cases_eq}
 use Rattle.std.proofs.lemmas.Bool.Decides.{nat_tests}
 use Rattle.std.proofs.lemmas.List.Elements.{Contains-get_or}
@@ -15,11 +15,17 @@ use Rattle.bilv_spec.proofs.PointSteps.{in_filter, in_left, in_map, in_right, th
 use Rattle.bilv_spec.proofs.PointsInGraph.{none_in, of_filter, of_map, split_in}
 use Rattle.walk_laws.proofs.CellValues.{words_fit}
 use Rattle.walk_laws.proofs.InputBits.{bit_is, flag_is, one_bit_same}
-use Rattle.frame_spec.specs.FrameWalk.{UnrolledProgram}
+use Rattle.frame_spec.specs.FrameWalk.{Action, Gift, UnrolledProgram}
+use Rattle.std.specs.Global.{Vec}
+use Rattle.std.specs.List.{list_any}
+use Rattle.start_value.specs.declared.layout.Layout.{Layout}
+use Rattle.start_value.specs.declared.layout.Layout.TheVariants.{Rv32, Arm}
+use Rattle.start_value.specs.Starts.{layout_of, written_of}
+use Rattle.frame_terms.specs.PassiveFrames.{gift_part, IsGiftAt}
 use Rattle.term_spec.specs.Terms.{TermReading, InRange}
 use Rattle.term_spec.specs.ClauseForm.{bits_from}
 use Rattle.frame_terms.specs.FrameCells.{Cells, AreFormed, IsRead, read_address}
-use Rattle.frame_terms.specs.FrameStarts.{HasValues, part_byte, IsWrittenPart, IsBroken, part_memory, IsPart, AreParts}
+use Rattle.frame_terms.specs.FrameStarts.{HasValues, part_byte, IsWrittenPart, IsBroken, part_memory, part_registers, part_flag, gift_registers, gives_flag, IsPart}
 use Rattle.frame_terms.proofs.PartStarts.{base_same, word_is}
 use Rattle.word_gates.specs.Numbers.{input_number}
 use Rattle.bit_blast.specs.declared.input_places.InputPlaces.{InputPlaces}
@@ -37,8 +43,14 @@ use Rattle.mem_cells.specs.declared.cells.Celled.{Celled}
 use Rattle.mem_cells.specs.FrameViews.{frame_cells_of, frame_of_cells}
 use Rattle.question_form.specs.FrameQuestions.{frame_question_of, heads_of_question, is_of_heads}
 use Rattle.frame_start.specs.declared.reads.Reads.{Reads}
-use Rattle.frame_start.specs.Files.{AreWhole, AreWrittenBytes, ForSomeValues, IsWrittenOf, UnderValues, differs, is_free_at}
-use Rattle.frame_start.specs.Reads.{AreReadsOf, HaveReads}
+use Rattle.frame_start.specs.declared.changed.Changed.{Changed}
+use Rattle.frame_start.specs.declared.parts.Parts.{Parts}
+use Rattle.frame_start.specs.Changes.{AreChanges, changed_flags, changed_registers, flag_among, is_given}
+use Rattle.frame_start.specs.Files.{AreWhole, AreWrittenBytes, ForSomeValues, IsWrittenGift, IsWrittenOf, UnderValues, differs, is_free_at}
+use Rattle.frame_start.specs.Reads.{AreReadsOf, HaveReads, gift_reads}
+use Rattle.frame_start.specs.Segments.{AreGiftsOf, ArePartsOf, IsGiftOf}
+use Rattle.frame_start.proofs.ChangedSets.{given_registers}
+use Rattle.frame_start.proofs.ChosenSteps.{points_long}
 
 -- ---- reads that go against the file
 
@@ -67,7 +79,7 @@ module _ (u : UnrolledProgram) (c : Cells) (x : TermReading) (of_head : Bool) wh
       (in_filter (differs u part) xs (read_address c x j, x.base part j) (are.all j inside)
       (is_other_of (part_byte u part (read_address c x j)) (x.base part j) n (ap (part_byte u part) at ∙ e) other)))
 
-  module _ (r : Reads) (have : HaveReads c of_head x r) where
+  module _ (r : Reads) (have : HaveReads u c of_head x r) where
     abbrev first : List ℕ
     first = map (λ (z : ℕ × ℕ). z.0) (filter (differs u 0) r.entry.items)
 
@@ -89,7 +101,7 @@ module _ (u : UnrolledProgram) (c : Cells) (x : TermReading) (of_head : Bool) wh
         (x.base part j ≡ n → ⊥) → Contains (first ++ second) a
     to_by zero j n a h inside at e other = in_left first second a (to_read 0 j n a r.entry.items have.entry inside at e other)
     to_by (suc zero) j n a h inside at e other = in_right first second a (to_read 1 j n a r.head.items (have.head h) inside at e other)
-    to_by (suc (suc i)) j n a h inside at e other = absurd h
+    to_by (suc (suc i)) j n a h inside at e other = absurd (cc)
 
     pub broken_to : (a : ℕ) → IsBroken u of_head c x a → Contains (first ++ second) a
     broken_to a (b, n, inside, h, at, e, other) = to_by b.part b.address n a h inside at e other
@@ -97,7 +109,7 @@ module _ (u : UnrolledProgram) (c : Cells) (x : TermReading) (of_head : Bool) wh
 pub broken_are : (u : UnrolledProgram) (r : Reads) (one two at : List ℕ) →
     one ≡ map (λ (z : ℕ × ℕ). z.0) (filter (differs u 0) r.entry.items) →
     two ≡ one ++ map (λ (z : ℕ × ℕ). z.0) (filter (differs u 1) r.head.items) → ((a : ℕ) → Contains two a ↔ Contains at a) →
-    (c : Cells) (of_head : Bool) (x : TermReading) → HaveReads c of_head x r → (a : ℕ) → Contains at a ↔ IsBroken u of_head c x a
+    (c : Cells) (of_head : Bool) (x : TermReading) → HaveReads u c of_head x r → (a : ℕ) → Contains at a ↔ IsBroken u of_head c x a
 broken_are u r one two at e f same c of_head x have a = (
   (λ h. broken_from u c x of_head r have a (subst (λ (l : List ℕ). Contains l a) all ((same a).1 h))),
   (λ h. (same a).0 (subst (λ (l : List ℕ). Contains l a) (sym all) (broken_to u c x of_head r have a h))),
@@ -147,26 +159,10 @@ module _ (u : UnrolledProgram) (part : ℕ) (reads free ordered bytes : List (�
 
 -- ---- parts
 
-module _ (u : UnrolledProgram) (heads : Bool) (c : Cells) (p : InputPlaces) (is : AreFramePlaces u heads c p) (formed : AreFormed u heads c)
-    (v : ℕ → Bool) (x : TermReading) (range : InRange x) (at : IsReadingAt p v x) (part : ℕ) (has : HasPart p part) (w : Written)
-    (reads bytes : List (ℕ × ℕ)) (are : AreReadsOf c x part reads) (written : AreWrittenBytes u part reads bytes)
-    (of : IsWrittenOf p v part bytes w)
+-- the bytes of a part
+module _ (u : UnrolledProgram) (heads : Bool) (c : Cells) (formed : AreFormed u heads c) (x : TermReading) (range : InRange x) (part : ℕ) (w : Written)
+    (reads bytes : List (ℕ × ℕ)) (are : AreReadsOf c x part reads) (written : AreWrittenBytes u part reads bytes) (bytes_are : w.bytes ≡ bytes)
     (whole : (j n : ℕ) → IsRead c part j → part_byte u part (read_address c x j) ≡ Some n → x.base part j ≡ n) where
-  registers_are : map (λ q. bits_from v (first_of p part + 32 * q) 32) (from_to 0 p.registers) ≡ map (x.regs part) u.registers
-  registers_are =
-      sym (ap (map (x.regs part)) is.registers
-      ∙ map_ranges (x.regs part) (λ q. bits_from v (first_of p part + 32 * q) 32) p.first_register 0 p.registers (λ q l.
-      at.registers part (p.first_register + q) has (omega arith) (omega arith)
-      ∙ ap (λ z. input_number v (first_of p part + 32 * z) 32) (let e : p.first_register + q - p.first_register ≡ 0 + q = omega arith in e)
-      ∙ sym (bits_are v (first_of p part + 32 * (0 + q)) 32)))
-
-  flag_bit : (f : ℕ) → f < u.flags → bit_at f (bits_from v (first_of p part + p.first_flag) p.flags) ≡ x.flags part f
-  flag_bit f l =
-      let k : f < p.flags = omega (arith, is.flags) in
-      let e = at.flags part f has k ∙ sym (bits_are v (first_of p part + p.first_flag + f) 1) in
-      one_bit_same _ _ (let z : bit_at f (bits_from v (first_of p part + p.first_flag) p.flags) < 2 = omega arith in z) (range.flags part f)
-      (bit_is v (first_of p part + p.first_flag) p.flags f k ∙ sym (flag_is v (first_of p part + p.first_flag + f)) ∙ sym (ap (λ z. z == 1) e))
-
   small_at : (j : ℕ) → IsRead c part j → read_address c x j < 2 ^ 32
   small_at j inside = words_fit c.nodes formed.typed formed.words x range 32 _ (formed.addresses j (formed.reads (record { part = part; address = j }) inside).1)
 
@@ -189,24 +185,90 @@ module _ (u : UnrolledProgram) (heads : Bool) (c : Cells) (p : InputPlaces) (is 
           ∙ written.all (read_address c x j, x.base part j) (are.all j inside) e)
       by (Some n) e = whole j n inside e
 
-  gives : (j : ℕ) → IsRead c part j → x.base part j ≡ part_memory u part w (read_address c x j)
+  pub gives : (j : ℕ) → IsRead c part j → x.base part j ≡ part_memory u part w (read_address c x j)
   gives j inside =
       gives_at j inside
       ∙ ap (λ z. known_or (part_byte u part z) bytes (read_address c x j))
       (let l = small_at j inside in let s : read_address c x j ≡ word 32 (read_address c x j) = omega arith in s)
-      ∙ ap (λ (l : List (ℕ × ℕ)). known_or (part_byte u part (word 32 (read_address c x j))) l (read_address c x j)) (sym of.bytes_are)
+      ∙ ap (λ (l : List (ℕ × ℕ)). known_or (part_byte u part (word 32 (read_address c x j))) l (read_address c x j)) (sym bytes_are)
+
+  pub bytes_fit : All (λ (b : ℕ × ℕ). (b.0 < 2 ^ 32) × (1 ≤ b.1) × (b.1 ≤ 255)) w.bytes
+  bytes_fit =
+      subst (All (λ (b : ℕ × ℕ). (b.0 < 2 ^ 32) × (1 ≤ b.1) × (b.1 ≤ 255))) (sym bytes_are)
+      (λ i d l. of_read (get_or bytes i d) (Contains-get_or bytes i d l))
+
+  pub bytes_rise : AreRising w.bytes
+  bytes_rise = subst AreRising (sym bytes_are) written.rise
+
+  pub bytes_free : All (λ (b : ℕ × ℕ). part_byte u part b.0 ≡ None) w.bytes
+  bytes_free =
+      subst (All (λ (b : ℕ × ℕ). part_byte u part b.0 ≡ None)) (sym bytes_are)
+      (λ i d l. (written.only (get_or bytes i d) (Contains-get_or bytes i d l)).1)
+
+-- the entry's and the head's
+module _ (u : UnrolledProgram) (heads : Bool) (c : Cells) (p : InputPlaces) (is : AreFramePlaces u heads c p) (formed : AreFormed u heads c)
+    (v : ℕ → Bool) (x : TermReading) (range : InRange x) (at : IsReadingAt p v x) (part : ℕ) (has : HasPart p part)
+    (all : part_registers u part ≡ u.registers) (flag : (f : ℕ) → x.flags part f ≡ part_flag u x part f) (w : Written)
+    (reads bytes : List (ℕ × ℕ)) (are : AreReadsOf c x part reads) (written : AreWrittenBytes u part reads bytes)
+    (of : IsWrittenOf p v part bytes w)
+    (whole : (j n : ℕ) → IsRead c part j → part_byte u part (read_address c x j) ≡ Some n → x.base part j ≡ n) where
+  registers_are : map (λ q. bits_from v (first_of p part + 32 * q) 32) (from_to 0 p.registers) ≡ map (x.regs part) u.registers
+  registers_are =
+      sym (ap (map (x.regs part)) is.registers
+      ∙ map_ranges (x.regs part) (λ q. bits_from v (first_of p part + 32 * q) 32) p.first_register 0 p.registers (λ q l.
+      at.registers part (p.first_register + q) has (omega arith) (omega arith)
+      ∙ ap (λ z. input_number v (first_of p part + 32 * z) 32) (let e : p.first_register + q - p.first_register ≡ 0 + q = omega arith in e)
+      ∙ sym (bits_are v (first_of p part + 32 * (0 + q)) 32)))
+
+  flag_bit : (f : ℕ) → f < u.flags → bit_at f (bits_from v (first_of p part + p.first_flag) p.flags) ≡ x.flags part f
+  flag_bit f l =
+      let k : f < p.flags = omega (arith, is.flags) in
+      let e = at.flags part f has k ∙ sym (bits_are v (first_of p part + p.first_flag + f) 1) in
+      one_bit_same _ _ (let z : bit_at f (bits_from v (first_of p part + p.first_flag) p.flags) < 2 = omega arith in z) (range.flags part f)
+      (bit_is v (first_of p part + p.first_flag) p.flags f k ∙ sym (flag_is v (first_of p part + p.first_flag + f)) ∙ sym (ap (λ z. z == 1) e))
 
   pub part_is : IsPart u c x part w
   part_is = record {
-    regs = of.regs ∙ registers_are;
-    flags = λ f l. ap (bit_at f) of.flags ∙ flag_bit f l;
+    regs = of.regs ∙ registers_are ∙ ap (map (x.regs part)) (sym all);
+    flags = λ f l. ap (bit_at f) of.flags ∙ flag_bit f l ∙ flag f;
     flags_fit = subst (λ (n : ℕ). w.flags < 2 ^ n) (sym is.flags) of.fit;
-    bytes = subst (All (λ (b : ℕ × ℕ). (b.0 < 2 ^ 32) × (1 ≤ b.1) × (b.1 ≤ 255))) (sym of.bytes_are)
-        (λ i d l. of_read (get_or bytes i d) (Contains-get_or bytes i d l));
-    bytes_rise = subst AreRising (sym of.bytes_are) written.rise;
-    unknown = subst (All (λ (b : ℕ × ℕ). part_byte u part b.0 ≡ None)) (sym of.bytes_are)
-        (λ i d l. (written.only (get_or bytes i d) (Contains-get_or bytes i d l)).1);
-    gives = gives;
+    bytes = bytes_fit u heads c formed x range part w reads bytes are written of.bytes_are whole;
+    bytes_rise = bytes_rise u heads c formed x range part w reads bytes are written of.bytes_are whole;
+    unknown = bytes_free u heads c formed x range part w reads bytes are written of.bytes_are whole;
+    gives = gives u heads c formed x range part w reads bytes are written of.bytes_are whole;
+    choices = of.choices;
+  }
+
+-- a gift
+module _ (u : UnrolledProgram) (heads : Bool) (c : Cells) (p : InputPlaces) (is : AreFramePlaces u heads c p) (formed : AreFormed u heads c)
+    (v : ℕ → Bool) (x : TermReading) (range : InRange x) (at : IsReadingAt p v x) (i : ℕ) (g : Gift) (there : IsGiftAt u i g) (ch : Changed)
+    (registers : g.registers ≡ changed_registers ch) (flags : g.flags ≡ changed_flags ch) (w : Written)
+    (reads bytes : List (ℕ × ℕ)) (are : AreReadsOf c x (gift_part i) reads) (written : AreWrittenBytes u (gift_part i) reads bytes)
+    (of : IsWrittenGift p v (gift_part i) (changed_registers ch) (changed_flags ch) bytes w) where
+  none_known : (j n : ℕ) → IsRead c (gift_part i) j → part_byte u (gift_part i) (read_address c x j) ≡ Some n → x.base (gift_part i) j ≡ n
+  none_known j n inside e = absurd (let f : None ≡ Some n = e in cc)
+
+  names : filter (is_given p (changed_registers ch)) (from_to 0 32) ≡ part_registers u (gift_part i)
+  names =
+      given_registers p ch
+      ∙ ap (λ (z : List ℕ). filter (λ r. list_any (nat_eq r) (changed_registers ch)) z) (sym is.registers)
+      ∙ ap (λ (z : List ℕ). filter (λ r. list_any (nat_eq r) z) u.registers) (sym registers)
+      ∙ ap (gift_registers u) (sym there.does)
+
+  flag_is_part : (f : ℕ) → flag_among x (gift_part i) (changed_flags ch) f ≡ part_flag u x (gift_part i) f
+  flag_is_part f =
+      ap (λ (z : List ℕ). if list_any (nat_eq f) z then x.flags (gift_part i) f else 0) (sym flags)
+      ∙ ap (λ (z : Action). if gives_flag z f then x.flags (gift_part i) f else 0) (sym there.does)
+
+  pub gift_part_is : IsPart u c x (gift_part i) w
+  gift_part_is = record {
+    regs = of.regs x at ∙ ap (map (x.regs (gift_part i))) names;
+    flags = λ f l. of.flags_are x at f (omega (arith, is.flags)) ∙ flag_is_part f;
+    flags_fit = subst (λ (n : ℕ). w.flags < 2 ^ n) (sym is.flags) of.fit;
+    bytes = bytes_fit u heads c formed x range (gift_part i) w reads bytes are written of.bytes_are none_known;
+    bytes_rise = bytes_rise u heads c formed x range (gift_part i) w reads bytes are written of.bytes_are none_known;
+    unknown = bytes_free u heads c formed x range (gift_part i) w reads bytes are written of.bytes_are none_known;
+    gives = gives u heads c formed x range (gift_part i) w reads bytes are written of.bytes_are none_known;
     choices = of.choices;
   }
 
@@ -228,10 +290,21 @@ module _ (u : UnrolledProgram) (heads of_head : Bool) (c : Cells) (formed : AreF
     ))
   ]
 
+-- a layout has few flags
+pub few_flags : (form : Layout) → length (layout_of form).flags ≤ 4
+few_flags (Rv32 compressed) = omega arith
+few_flags (Arm big profile) = omega arith
+
+-- the reads of a gift by its place
+pub gift_reads_listed : (lists : List (Vec (ℕ × ℕ))) (i : ℕ) (d : Vec (ℕ × ℕ)) → i < length lists → (slice_index_or lists i d).items ≡ gift_reads lists i
+gift_reads_listed [] i d l = absurd (omega arith)
+gift_reads_listed (x ∷ lists) zero d l = refl
+gift_reads_listed (x ∷ lists) (suc i) d l = gift_reads_listed lists i d (omega arith)
+
 -- the parts of values
 module _ (c : Celled) (values : List Bool) (formed : AreFormed (frame_of_cells c) (heads_of_question c.question.now) (frame_cells_of c))
     (p : InputPlaces) (is : AreFramePlaces (frame_of_cells c) (heads_of_question c.question.now) (frame_cells_of c) p) (r : Reads)
-    (have : UnderValues c values (λ x. HaveReads (frame_cells_of c) (is_of_heads c.question.now) x r)) (whole : ForSomeValues c values (AreWhole c)) where
+    (have : UnderValues c values (λ x. HaveReads (frame_of_cells c) (frame_cells_of c) (is_of_heads c.question.now) x r)) (whole : ForSomeValues c values (AreWhole c)) where
   abbrev of_head : Bool
   of_head = is_of_heads c.question.now
 
@@ -257,17 +330,45 @@ module _ (c : Celled) (values : List Bool) (formed : AreFormed (frame_of_cells c
   heads_by true b h = refl
   heads_by false b h = absurd (let e : false ≡ true = h in cc)
 
-  pub parts_are : (entry head : Written) (first second : List (ℕ × ℕ)) → AreWrittenBytes (frame_of_cells c) 0 r.entry.items first →
-      AreWrittenBytes (frame_of_cells c) 1 r.head.items second → IsWrittenOf p (valuation values) 0 first entry → IsWrittenOf p (valuation values) 1 second head →
-      UnderValues c values (λ x. AreParts (frame_of_cells c) (is_of_heads c.question.now) (frame_cells_of c) x entry head)
-  parts_are entry head first second written_first written_second of_first of_second x hx =
+  pub gift_one : (i : ℕ) (g : Gift) → IsGiftAt (frame_of_cells c) i g →
+      (m : ℕ → ℕ) × ((y : ℕ × ℕ) → Contains (gift_reads r.gifts.items i) y → m y.0 ≡ y.1)
+  gift_one i g at = (
+    byte_in (gift_reads r.gifts.items i),
+    one_of (gift_reads r.gifts.items i) (same_byte (gift_part i) tt (gift_reads r.gifts.items i) ((have whole.0 whole.1).gifts i g at)),
+  )
+
+  -- the gift of a place
+  pub gift_is_of : (i : ℕ) (g : Gift) → IsGiftAt (frame_of_cells c) i g → (ch : Changed) → g.registers ≡ changed_registers ch → g.flags ≡ changed_flags ch →
+      (w : Written) (bytes : List (ℕ × ℕ)) → AreWrittenBytes (frame_of_cells c) (gift_part i) (gift_reads r.gifts.items i) bytes →
+      IsWrittenGift p (valuation values) (gift_part i) (changed_registers ch) (changed_flags ch) bytes w → IsGiftOf c values i w
+  gift_is_of i g at ch registers flags w bytes written of h there x hx =
+      gift_part_is (frame_of_cells c) (heads_of_question c.question.now) (frame_cells_of c) p is formed (valuation values) x hx.in_range
+      (at_of_bits (frame_of_cells c) (heads_of_question c.question.now) (frame_cells_of c) p is (valuation values) x hx.in_range hx.bits) i g at ch registers
+      flags w (gift_reads r.gifts.items i) bytes ((have x hx).gifts i g at) written of
+
+  -- by the sets of its point
+  pub gift_by : (i part : ℕ) → part ≡ gift_part i → (ch : Changed) → AreChanges (frame_of_cells c) i (Some ch) → (w : Written) (bytes : List (ℕ × ℕ)) →
+      AreWrittenBytes (frame_of_cells c) part (gift_reads r.gifts.items i) bytes →
+      IsWrittenGift p (valuation values) part (changed_registers ch) (changed_flags ch) bytes w → IsGiftOf c values i w
+  gift_by i part e ch (g, at, rs, fs) w bytes written of =
+      gift_is_of i g at ch rs fs w bytes (subst (λ (q : ℕ). AreWrittenBytes (frame_of_cells c) q (gift_reads r.gifts.items i) bytes) e written)
+      (subst (λ (q : ℕ). IsWrittenGift p (valuation values) q (changed_registers ch) (changed_flags ch) bytes w) e of)
+
+  pub parts_are : (parts : Parts) (first second : List (ℕ × ℕ)) → AreWrittenBytes (frame_of_cells c) 0 r.entry.items first →
+      AreWrittenBytes (frame_of_cells c) 1 r.head.items second → IsWrittenOf p (valuation values) 0 first (written_of parts.entry) →
+      IsWrittenOf p (valuation values) 1 second (written_of parts.head) →
+      AreGiftsOf c values (length c.question.now.passive.now.unrolled.now.points.items) parts.gifts.items → ArePartsOf c values parts
+  parts_are parts first second written_first written_second of_first of_second gifts x hx =
       let at = at_of_bits (frame_of_cells c) (heads_of_question c.question.now) (frame_cells_of c) p is (valuation values) x hx.in_range hx.bits in
       let none = whole_by (frame_of_cells c) (heads_of_question c.question.now) (is_of_heads c.question.now) (frame_cells_of c) formed (valuation values) x whole.0
       hx whole.1 whole.2.unbroken in
       record {
-        at_entry = part_is (frame_of_cells c) (heads_of_question c.question.now) (frame_cells_of c) p is formed (valuation values) x hx.in_range at 0 tt entry
-            r.entry.items first (have x hx).entry written_first of_first (none 0 tt);
+        at_entry = part_is (frame_of_cells c) (heads_of_question c.question.now) (frame_cells_of c) p is formed (valuation values) x hx.in_range at 0 tt refl
+            (λ f. refl) (written_of parts.entry) r.entry.items first (have x hx).entry written_first of_first (none 0 tt);
         at_head = λ t. part_is (frame_of_cells c) (heads_of_question c.question.now) (frame_cells_of c) p is formed (valuation values) x hx.in_range at 1
-            (is.head_is ∙ heads_by c.question.now.passive.now.unrolled.now.heads (asks_head (frame_question_of c.question.now)) t) head
-            r.head.items second ((have x hx).head t) written_second of_second (none 1 t);
+            (is.head_is ∙ heads_by c.question.now.passive.now.unrolled.now.heads (asks_head (frame_question_of c.question.now)) t) refl (λ f. refl)
+            (written_of parts.head) r.head.items second ((have x hx).head t) written_second of_second (none 1 t);
+        at_gift = λ i g h. gifts.each i
+            (let a = h.place in
+            let b = points_long c.question.now.passive.now.unrolled.now c.question.now.passive.now.unrolled.now.points.items in omega arith) g h x hx;
       }

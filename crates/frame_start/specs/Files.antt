@@ -1,5 +1,5 @@
 -- Bytes that values give to base reads, and those that parts have of the file.
-use Rattle.std.specs.Prelude.{ℕ, ◌≡◌, ◌≤◌, ◌<◌, ◌+◌, ◌*◌, ◌^◌, ◌↔◌, Bool, List, [], None, Contains, length, map, slice_index}
+use Rattle.std.specs.Prelude.{ℕ, ◌≡◌, ◌≤◌, ◌<◌, ◌+◌, ◌*◌, ◌^◌, ◌↔◌, Bool, List, [], None, Contains, filter, length, map, slice_index}
 use Rattle.word_spec.specs.Memory.{byte_in}
 use Rattle.word_spec.specs.RowFiles.{from_to}
 use Rattle.word_spec.specs.State.{Written}
@@ -14,7 +14,9 @@ use Rattle.mem_cells.specs.declared.cells.Celled.{Celled}
 use Rattle.mem_cells.specs.FrameViews.{frame_cells_of, frame_of_cells}
 use Rattle.term_spec.specs.ClauseForm.{bits_from}
 use Rattle.bit_blast.specs.declared.input_places.InputPlaces.{InputPlaces}
-use Rattle.bit_blast.specs.Places.{first_of}
+use Rattle.word_spec.specs.Words.{bit_at}
+use Rattle.bit_blast.specs.Places.{first_of, IsReadingAt}
+use Rattle.frame_start.specs.Changes.{flag_among, is_given}
 use Rattle.bit_blast.specs.Broken.{is_other}
 use Rattle.bit_blast.specs.ReadBytes.{is_free}
 
@@ -61,6 +63,14 @@ pub record AreWrittenBytes (u : UnrolledProgram) (part : ℕ) (reads bytes : Lis
 pub record IsWrittenOf (p : InputPlaces) (v : ℕ → Bool) (part : ℕ) (bytes : List (ℕ × ℕ)) (w : Written) : Type 0 where
   pub regs : w.regs ≡ map (λ q. bits_from v (first_of p part + 32 * q) 32) (from_to 0 p.registers)
   pub flags : w.flags ≡ bits_from v (first_of p part + p.first_flag) p.flags
+  pub fit : w.flags < 2 ^ p.flags
+  pub bytes_are : w.bytes ≡ bytes
+  pub choices : w.choices ≡ []
+
+-- a gift by a valuation: these registers and flags of a part, with these bytes
+pub record IsWrittenGift (p : InputPlaces) (v : ℕ → Bool) (part : ℕ) (registers flags : List ℕ) (bytes : List (ℕ × ℕ)) (w : Written) : Type 0 where
+  pub regs : (x : TermReading) → IsReadingAt p v x → w.regs ≡ map (x.regs part) (filter (is_given p registers) (from_to 0 32))
+  pub flags_are : (x : TermReading) → IsReadingAt p v x → (f : ℕ) → f < p.flags → bit_at f w.flags ≡ flag_among x part flags f
   pub fit : w.flags < 2 ^ p.flags
   pub bytes_are : w.bytes ≡ bytes
   pub choices : w.choices ≡ []

@@ -1,3 +1,4 @@
+pub mod Changes
 pub mod Evaluations
 pub mod Files
 pub mod Inputs

@@ -56,7 +56,7 @@ pub fn broken_reads(
     reads: &Reads,
 ) -> Result<Vec<u32>, AllocError>
     ensures rise { IfOk result (λ v. IsStrictlyIncreasing v.items) }
-    ensures broken { IfOk result (λ v. (c : Cells) (of_head : Bool) (x : TermReading) → HaveReads c of_head x reads.now → (a : ℕ) →
+    ensures broken { IfOk result (λ v. (c : Cells) (of_head : Bool) (x : TermReading) → HaveReads (frame_unrolled_of unrolled.now) c of_head x reads.now → (a : ℕ) →
         Contains v.items a ↔ IsBroken (frame_unrolled_of unrolled.now) of_head c x a) }
 {
     let mut found = Vec::new(alloc);

@@ -19,7 +19,7 @@ use std::alloc::{AllocError, Global};
 use term_dag::Term;
 
 /// Whether a point is of a root, and is met.
-fn is_met(points: &[Point], met: &[Term], words: &[u64], root: usize, place: usize) -> bool
+pub fn is_met(points: &[Point], met: &[Term], words: &[u64], root: usize, place: usize) -> bool
     requires point { place < length points.now }
     requires term { place < length met.now }
     requires word { (d : Term) → (slice_index_or met.now place d).0 < length words.now }
@@ -70,7 +70,7 @@ fn choices_by_step(
 }
 
 /// Whether the segment of a root can be shown: the entry's can, and a head's where the question speaks of head states.
-fn can_be_shown(question: &Question, root: usize) -> bool
+pub fn can_be_shown(question: &Question, root: usize) -> bool
     requires within { root < length question.now.passive.now.unrolled.now.roots.items }
     ensures shown { result ≡ true → IsWrittenAnchor (is_of_heads question.now) (anchor_at question.now.passive.now.unrolled.now root) }
     ensures other { result ≡ false → ¬ IsWrittenAnchor (is_of_heads question.now) (anchor_at question.now.passive.now.unrolled.now root) }
@@ -81,7 +81,7 @@ fn can_be_shown(question: &Question, root: usize) -> bool
     }
 }
 
-/// The choices of the segment of a root by its steps: those that are not 0 of the points that are met on it, and none if it cannot be shown or no point draws. The
+/// The choices of the segment of a root by its steps: those that are not 0 of the points that are met on it, and none if it cannot be shown or no term was read. The
 /// error is want of memory.
 fn choices_of_root(
     alloc: Global,
@@ -90,12 +90,12 @@ fn choices_of_root(
     root: usize,
 ) -> Result<Vec<(u64, u8)>, AllocError>
     requires askable { IsFrameAskable c.now.question.now.passive.now }
-    requires words { met.now.draws ≡ true → length met.now.words.items ≡ length c.now.question.now.passive.now.dag }
+    requires words { met.now.needed ≡ true → length met.now.words.items ≡ length c.now.question.now.passive.now.dag }
     requires few { (i : ℕ) → slice_index met.now.choices.items i ≤ 3 }
     requires within { root < length c.now.question.now.passive.now.unrolled.now.roots.items }
     ensures { IfOk result (λ xs. (values : List Bool) (p : Parts) → IsMet c.now values p met.now → AreChoicesOf c.now values p root xs.items) }
 {
-    if !met.draws {
+    if !met.needed {
         return Ok(Vec::new(alloc));
     }
     if can_be_shown(c.question, root) {
@@ -114,7 +114,7 @@ pub fn choices_of_roots(
     met: &Met,
 ) -> Result<Vec<Vec<(u64, u8)>>, AllocError>
     requires askable { IsFrameAskable c.now.question.now.passive.now }
-    requires words { met.now.draws ≡ true → length met.now.words.items ≡ length c.now.question.now.passive.now.dag }
+    requires words { met.now.needed ≡ true → length met.now.words.items ≡ length c.now.question.now.passive.now.dag }
     requires few { (i : ℕ) → slice_index met.now.choices.items i ≤ 3 }
     ensures { IfOk result (λ xs. (values : List Bool) (p : Parts) → IsMet c.now values p met.now →
         AreChoicesTo c.now values p (length c.now.question.now.passive.now.unrolled.now.roots.items) xs.items) }

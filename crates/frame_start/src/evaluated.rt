@@ -5,6 +5,7 @@ ghost use Rattle.question_form.specs.FrameQuestions.{heads_of_question};
 ghost use Rattle.mem_cells.specs.FrameViews.{frame_cells_of, frame_of_cells};
 ghost use Rattle.frame_start.specs.Evaluations.{IsEvaluated};
 
+use crate::gifts::other_readings;
 use crate::inputs::part_inputs;
 use crate::reads::{Reads, reads_of_parts};
 use bit_blast::{InputPlaces, choices_by_place, places_of};
@@ -21,9 +22,9 @@ pub struct Evaluated<'a> {
     pub places: InputPlaces,
     /// What terms are read under in the entry's part, with the choices of the points. The memory is empty.
     pub entry: Reading,
-    /// What they are read under in the head's, but for its memory.
-    pub head: Reading,
-    /// The base reads of both parts, with their bytes.
+    /// What they are read under in the head's and in the gifts of all places, but for their memories.
+    pub others: Vec<Reading>,
+    /// The base reads of all parts, with their bytes.
     pub reads: Reads,
 }
 
@@ -41,17 +42,22 @@ pub fn evaluate<'a>(
     if count > u32::MAX as usize {
         return Err(AllocError);
     }
+    let unrolled = celled.question.passive.unrolled;
+    if unrolled.points.len() > u32::MAX as usize - 2 {
+        return Err(AllocError);
+    }
     let places = places_of(alloc, celled)?;
     let choices = choices_by_place(alloc, &places, values)?;
     let entry = part_inputs(alloc, &places, values, 0, count, choices)?;
     let head = part_inputs(alloc, &places, values, 1, count, Vec::new(alloc))?;
-    let reads = reads_of_parts(alloc, celled, &entry, &head)?;
+    let others = other_readings(alloc, unrolled, &places, values, count, head, &[])?;
+    let reads = reads_of_parts(alloc, celled, &entry, &others)?;
     Ok(Evaluated {
         celled,
         values,
         places,
         entry,
-        head,
+        others,
         reads,
     })
 }

@@ -82,7 +82,7 @@ fn byte_of(places: &InputPlaces, values: &[bool], read: Option<u32>) -> u8
 }
 
 /// The bytes of the base reads of a part, by the numbers of their addresses; 0 where there is none.
-fn bytes_by_address(
+pub fn bytes_by_address(
     alloc: Global,
     places: &InputPlaces,
     values: &[bool],

@@ -1,5 +1,5 @@
 //! The base reads of each part, as values give them.
-ghost use Rattle.std.specs.Prelude.{◌≡◌, ℕ, ◌<◌, ◌++◌, [], ◌∷◌, Contains, if◌then◌else◌, ◌^◌, filter, length, map, slice_index, slice_index_or, IfOk, OnOk};
+ghost use Rattle.std.specs.Prelude.{◌≡◌, ℕ, ◌<◌, ◌+◌, ◌++◌, [], ◌∷◌, Contains, if◌then◌else◌, ◌^◌, filter, length, map, slice_index, slice_index_or, IfOk, OnOk};
 ghost use Rattle.frame_terms.specs.FrameCells.{AreFormed};
 ghost use Rattle.term_dag.specs.declared.nodes.Term.{Term};
 ghost use Rattle.question_form.specs.FrameQuestions as questions;
@@ -9,18 +9,20 @@ ghost use Rattle.mem_cells.specs.FrameViews.{frame_cells_of, frame_of_cells};
 ghost use Rattle.bit_blast.specs.ReadBytes.{address_word};
 ghost use Rattle.term_dag.specs.Readings.{AreWords};
 ghost use Rattle.frame_start.specs.Inputs.{both_reading};
-ghost use Rattle.frame_start.specs.Reads.{AreReadUnder, is_of, pair_at};
+ghost use Rattle.frame_start.specs.Reads.{AreGiftReads, AreGiftsReads, AreLong, AreReadUnder, AreReadable, is_of, pair_at};
 
+use crate::changed::is_contract_step;
 use mem_cells::{BaseRead, Celled};
 use question_form::Question;
 use std::alloc::{AllocError, Global};
 use term_dag::{Parts, Reading, Term};
 
-/// The address and the byte of each base read of the entry's part, and of the head's where the question speaks of head states.
+/// The address and the byte of each base read of the entry's part, of the head's where the question speaks of head states, and of the gift of each place.
 #[derive(Drop)]
 pub struct Reads {
     pub entry: Vec<(u32, u8)>,
     pub head: Vec<(u32, u8)>,
+    pub gifts: Vec<Vec<(u32, u8)>>,
 }
 
 /// Whether a question speaks of head states, which its frame has.
@@ -100,21 +102,70 @@ fn reads_of_head(
     Ok(Vec::new(alloc))
 }
 
-/// The words of the terms of cells under data of both parts. The error is want of memory.
+/// The words of the terms of cells under data of all parts. The error is want of memory.
 fn cell_words(
     alloc: Global,
     c: &Celled,
     entry: &Reading,
-    head: &Reading,
+    others: &[Reading],
 ) -> Result<Vec<u64>, AllocError>
-    ensures { IfOk result (λ ws. AreWords (both_reading entry.now (head.now ∷ [])) c.now.dag ws.items) }
+    ensures { IfOk result (λ ws. AreWords (both_reading entry.now others.now) c.now.dag ws.items) }
 {
     let parts = Parts {
         first: entry,
-        others: std::slice::from_ref(head),
+        others,
     };
     let words = c.dag.values_of_parts(alloc, &parts)?;
     Ok(words)
+}
+
+/// The base reads of the gift of a place; none where no contract step is made.
+fn reads_of_gift(
+    alloc: Global,
+    c: &Celled,
+    words: &[u64],
+    others: &[Reading],
+    place: usize,
+) -> Result<Vec<(u32, u8)>, AllocError>
+    requires readable { AreReadable c.now words.now }
+    requires place { place < length c.now.question.now.passive.now.unrolled.now.points.items }
+    requires points { length c.now.question.now.passive.now.unrolled.now.points.items + 2 < 2 ^ 32 }
+    requires others { AreLong c.now others.now }
+    ensures { IfOk result (λ v. AreGiftReads c.now words.now others.now place v.items) }
+{
+    let unrolled = c.question.passive.unrolled;
+    if is_contract_step(unrolled.points[place].deed) {
+        let bytes = &others[place + 1].base;
+        let reads = reads_of_part(
+            alloc,
+            &c.reads,
+            &c.addresses,
+            words,
+            bytes,
+            place as u32 + 2,
+        )?;
+        return Ok(reads);
+    }
+    Ok(Vec::new(alloc))
+}
+
+/// The base reads of the gifts of all places.
+fn reads_of_gifts(
+    alloc: Global,
+    c: &Celled,
+    words: &[u64],
+    others: &[Reading],
+) -> Result<Vec<Vec<(u32, u8)>>, AllocError>
+    requires readable { AreReadable c.now words.now }
+    requires points { length c.now.question.now.passive.now.unrolled.now.points.items + 2 < 2 ^ 32 }
+    requires others { AreLong c.now others.now }
+    ensures { IfOk result (λ v. AreGiftsReads c.now words.now others.now (length c.now.question.now.passive.now.unrolled.now.points.items) v.items) }
+{
+    let mut gifts = Vec::new(alloc);
+    for place in 0..c.question.passive.unrolled.points.len() {
+        gifts.push(reads_of_gift(alloc, c, words, others, place)?)?;
+    }
+    Ok(gifts)
 }
 
 /// The base reads of the parts, with the bytes that data have for them. The error is want of memory.
@@ -122,18 +173,21 @@ pub fn reads_of_parts(
     alloc: Global,
     c: &Celled,
     entry: &Reading,
-    head: &Reading,
+    others: &[Reading],
 ) -> Result<Reads, AllocError>
     requires formed { AreFormed (frame_of_cells c.now) (heads_of_question c.now.question.now) (frame_cells_of c.now) }
+    requires points { length c.now.question.now.passive.now.unrolled.now.points.items + 2 < 2 ^ 32 }
     requires entry { length entry.now.base.items ≡ length c.now.addresses.items }
-    requires head { length head.now.base.items ≡ length c.now.addresses.items }
-    ensures { IfOk result (AreReadUnder c.now entry.now head.now) }
+    requires others { AreLong c.now others.now }
+    ensures { IfOk result (AreReadUnder c.now entry.now others.now) }
 {
-    let words = cell_words(alloc, c, entry, head)?;
+    let words = cell_words(alloc, c, entry, others)?;
     let of_entry = reads_of_part(alloc, &c.reads, &c.addresses, &words, &entry.base, 0)?;
-    let of_head = reads_of_head(alloc, c, &words, &head.base)?;
+    let of_head = reads_of_head(alloc, c, &words, &others[0].base)?;
+    let gifts = reads_of_gifts(alloc, c, &words, others)?;
     Ok(Reads {
         entry: of_entry,
         head: of_head,
+        gifts,
     })
 }

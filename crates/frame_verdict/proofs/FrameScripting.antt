@@ -68,6 +68,6 @@ pub script_is : (p : Program) (invariants : List ℕ) (k : ℕ) (layout : Layout
     (question : Question) (text : List ℕ) → Tells u question text → IsFrameScript (frame_of p invariants) layout k question text
 script_is p invariants k layout u ground question text told =
     let f = frame_of p invariants in
-    script_of_frame f ground.lawful ground.low ground.among k (frame_unrolled_of u) ground.unrolling layout question text
+    script_of_frame f ground.lawful ground.low [] ground.among k (frame_unrolled_of u) ground.unrolling layout question text
     (subst (λ (l : Layout). TellsFrameScript (frame_unrolled_of u) (has_heads f) l question text) ground.form
     (subst (λ (h : Bool). TellsFrameScript (frame_unrolled_of u) h (layout_of u.form) question text) ground.heads told))

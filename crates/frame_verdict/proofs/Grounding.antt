@@ -32,7 +32,7 @@ use Rattle.frame_terms.specs.PassiveFrames.{IsPassive, IsWalkable, inputs_of}
 use Rattle.frame_terms.proofs.FrameWalkable.{frame_unrolling_is_walkable}
 use Rattle.known_bytes.specs.Runs.{AreRuns}
 use Rattle.notes_value.specs.Reads.{AreOver}
-use Rattle.question_form.specs.Forms.{AreRootsFormed, IsFormed}
+use Rattle.question_form.specs.Forms.{AreRootsFormed, AreStepsFormed, IsFormed}
 use Rattle.question_form.specs.FrameQuestions.{frame_passive_of}
 use Rattle.question_form.specs.FrameViews.{frame_unrolled_of, points_of}
 use Rattle.question_form.specs.declared.questions.Passive.{Passive}
@@ -119,7 +119,7 @@ module _ (file : List ℕ) (notes : Notes) (entry : ℕ) (invariants : List ℕ)
   reads : ReadsMemory p
   reads = record { word = λ s a. refl; little = lawful.little }
 
-  module _ (u : Unrolled) (un : IsUnrolling f [] b.unroll (frame_unrolled_of u)) (formed : IsFormed u) (roots : AreRootsFormed u)
+  module _ (u : Unrolled) (un : IsUnrolling f [] b.unroll (frame_unrolled_of u)) (formed : IsFormed u) (roots : AreRootsFormed u) (steps : AreStepsFormed u)
       (heads : u.heads ≡ has_heads f) (few : length u.points.items ≤ b.points) (has : HasForm m u)
       (addresses : (i : ℕ) → i < length (frame_unrolled_of u).points → (point_at (frame_unrolled_of u) i).point.at < 2 ^ 32)
       (layout : layout_of u.form ≡ form) (runs : AreRuns u.known.items)
@@ -145,6 +145,7 @@ module _ (file : List ℕ) (notes : Notes) (entry : ℕ) (invariants : List ℕ)
             addresses;
         formed = formed;
         roots = roots;
+        steps = steps;
         headed = headed;
         own = own;
         first = first;
@@ -168,14 +169,14 @@ module _ (file : List ℕ) (notes : Notes) (entry : ℕ) (invariants : List ℕ)
 
   -- what comes of it is that, if anything
   pub unrolled_within : {E : Type 0} (r : Result Unrolled E) → IfOk r (λ u. IsUnrolling f [] b.unroll (frame_unrolled_of u)) → IfOk r (λ u. IsFormed u) →
-      IfOk r (λ u. AreRootsFormed u) → IfOk r (λ u. u.heads ≡ has_heads f) → IfOk r (λ u. length u.points.items ≤ b.points) → IfOk r (λ u. HasForm m u) →
+      IfOk r (λ u. AreRootsFormed u) → IfOk r (λ u. AreStepsFormed u) → IfOk r (λ u. u.heads ≡ has_heads f) → IfOk r (λ u. length u.points.items ≤ b.points) → IfOk r (λ u. HasForm m u) →
       IfOk r (λ u. (i : ℕ) → i < length (frame_unrolled_of u).points → (point_at (frame_unrolled_of u) i).point.at < 2 ^ 32) →
       IfOk r (λ u. layout_of u.form ≡ form) → IfOk r (λ u. AreRuns u.known.items) →
       ((x : ℕ) → 2 ^ 32 ≤ x → IfOk r (λ u. byte_of_runs (frame_unrolled_of u).known x ≡ None)) → IfOk r (λ u. BeginAtOwn u) → IfOk r (λ u. IsEntryFirst u) →
       IfOk r (λ u. AreHeaded u) → IfOk r (IsFrameUnrolledOf p invariants form b)
-  unrolled_within (Ok u) un formed roots heads few has addresses layout runs beyond own first headed =
-      is_unrolled u un formed roots heads few has addresses layout runs beyond own first headed
-  unrolled_within (Err e) un formed roots heads few has addresses layout runs beyond own first headed = tt
+  unrolled_within (Ok u) un formed roots steps heads few has addresses layout runs beyond own first headed =
+      is_unrolled u un formed roots steps heads few has addresses layout runs beyond own first headed
+  unrolled_within (Err e) un formed roots steps heads few has addresses layout runs beyond own first headed = tt
 
 -- there are no more points, and the price is above the budget or within it
 module _ (p : Program) (invariants : List ℕ) (layout : Layout) (b : Budget) (u : Unrolled) (h : IsFrameUnrolledOf p invariants layout b u) where

@@ -10,12 +10,11 @@ use Rattle.frame_spec.specs.FrameRuns.{Start as Begun}
 use Rattle.bilv_spec.specs.Run.{Place}
 use Rattle.frame_spec.proofs.OfSegments.{questions_are_of_segments}
 use Rattle.frame_terms.specs.FrameStarts.{shown_of}
-use Rattle.start_value.specs.Starts.{written_of}
 use Rattle.question_form.specs.declared.unrolled.Unrolled.{Unrolled}
 use Rattle.question_form.specs.FrameViews.{anchor_at}
 use Rattle.frame_rounds.specs.FrameGrounds.{AreSegments, IsFrameGround, shown_at}
 use Rattle.frame_start.specs.declared.meaning.Segments.{Segments}
-use Rattle.frame_start.specs.Segments.{choices_at}
+use Rattle.frame_start.specs.Segments.{choices_at, written_parts}
 use Rattle.table_run.specs.FrameEnds.{frame_of, whole_of}
 
 module _ (p : Program) (invariants : List ℕ) (layout : Layout) (k : ℕ) (u : Unrolled) (s : Segments)
@@ -31,7 +30,7 @@ module _ (p : Program) (invariants : List ℕ) (layout : Layout) (k : ℕ) (u : 
   abbrev head_by : Anchor → ℕ → Option Place
   head_by anchor i =
       (shown_start (whole_of p invariants) f layout
-      (shown_of (written_of s.parts.entry) (written_of s.parts.head) anchor (choices_at s.choices.items i))).head
+      (shown_of (written_parts s.parts) anchor (choices_at s.choices.items i) [])).head
 
   no_head : (i : ℕ) → anchor_at u i ≡ AtEntry → (begun i).head ≡ None
   no_head i at = ap (λ (a : Anchor). head_by a i) at

@@ -92,7 +92,7 @@ module _ (f : Frame) (lawful : HasLawfulRows f.program) (memory : ReadsMemory f.
   calls_none x t n c steps e =
       let point = subst (λ (z : Run). StandsAt f k (anchor_of start.head) z) e
       (segments_meet_points f lawful memory places k start is.entry is.origin is.given steps) in
-      let none : true ≡ false = (of_segment f k plain (point_of (anchor_of start.head) true t c) point).contract in cc
+      let none : true ≡ false = (of_segment f k (point_of (anchor_of start.head) true t c) point).contract plain in cc
 
   -- no contract step is made
   pub no_contract_step : ¬ MakesContractStep f k start

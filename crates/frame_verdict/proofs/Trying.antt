@@ -2,7 +2,7 @@
 use Rattle.std.proofs.Common.{◌≡◌, ◌≢◌, refl, sym, ap, subst, ◌∙◌, ℕ, ◌-◌, ◌<◌, ◌≤◌, Bool, true, false, List, [], Option, Some, None, length, get_or, arith}
 use Rattle.std.specs.Prelude.{◌&&◌, option_map}
 use Rattle.std.proofs.lemmas.List.{get_or_default, reverse-reverse}
-use Rattle.word_spec.specs.State.{State, Written}
+use Rattle.word_spec.specs.State.{State}
 use Rattle.bilv_spec.specs.Points.{is_known_at, is_kept_at}
 use Rattle.bilv_spec.specs.Run.{Program, Place}
 use Rattle.bilv_spec.specs.Verdict.{IsEntryState}
@@ -20,7 +20,7 @@ use Rattle.frame_spec.specs.FrameVerdict.{IsOrigin, IsStart, Whole}
 use Rattle.frame_spec.proofs.OneEnd.{one_end}
 use Rattle.frame_laws.proofs.FrameAnswers.{head_anchor}
 use Rattle.frame_terms.specs.FrameStarts as starts
-use Rattle.frame_terms.specs.FrameStarts.{IsWrittenAnchor}
+use Rattle.frame_terms.specs.FrameStarts.{IsWrittenAnchor, WrittenParts}
 use Rattle.question_form.specs.Asked.{frame_question}
 use Rattle.program_points.specs.Listed.{anchor_of}
 use Rattle.program_points.specs.Tables.{stacks_of}
@@ -36,7 +36,7 @@ use Rattle.table_run.specs.FrameEnds.{frame_found_of, frame_of, whole_of}
 use Rattle.table_run.specs.declared.ending.FrameEnding.{FrameEnding}
 use Rattle.frame_rounds.specs.FrameGrounds.{AreSegments, IsFrameGround, ShowsQuestion, shown_at}
 use Rattle.frame_start.specs.declared.meaning.Segments.{Segments}
-use Rattle.frame_start.specs.Segments.{choices_at}
+use Rattle.frame_start.specs.Segments.{choices_at, written_parts}
 use Rattle.frame_rounds.proofs.FrameRoots.{root_of_number, head_written}
 use Rattle.frame_verdict.specs.FrameMeasures.{IsFrameMeasurable}
 use Rattle.frame_verdict.specs.ShownEnds.{Ends, EndsAsAsked, HasHead, IsEndOf, IsEnded, IsHeadFor, IsHeadWritten, is_end, shown_of, start_of, wants_anchor}
@@ -64,12 +64,12 @@ module _ (p : Program) (invariants : List ℕ) (k : ℕ) (layout : Layout) where
   w = whole_of p invariants
 
   -- a segment that is shown, of an anchor
-  module _ (entry head : Written) (choices : List (ℕ × ℕ)) where
+  module _ (parts : WrittenParts) (choices : List (ℕ × ℕ)) where
     abbrev begun : Anchor → runs.Start
-    begun a = shown_start w f layout (starts.shown_of entry head a choices)
+    begun a = shown_start w f layout (starts.shown_of parts a choices [])
 
     -- its head state is at a head
-    head_there : (a : Anchor) → IsAnchor f k a → (h : WrittenHead) → (starts.shown_of entry head a choices).head ≡ Some h → is_head f h.at ≡ true
+    head_there : (a : Anchor) → IsAnchor f k a → (h : WrittenHead) → (starts.shown_of parts a choices []).head ≡ Some h → is_head f h.at ≡ true
     head_there AtEntry is h e = absurd (cc)
     head_there (AtHead stack b) is h e =
         let same : b ≡ h.at = cc in subst (λ z. is_head f z ≡ true) same (head_anchor f k (first_of f.program.entry (AtHead stack b)) is)
@@ -79,12 +79,12 @@ module _ (p : Program) (invariants : List ℕ) (k : ℕ) (layout : Layout) where
     origin_is AtEntry is h = tt
     origin_is (AtHead stack b) is h = (subst (λ (z : List ℕ). IsAnchor f k (AtHead z b)) (sym (reverse-reverse stack)) is, h)
 
-    choices_few : (a : Anchor) → IsShown w f layout (starts.shown_of entry head a choices) → (n : ℕ) → (begun a).choices n < 4
+    choices_few : (a : Anchor) → IsShown w f layout (starts.shown_of parts a choices []) → (n : ℕ) → (begun a).choices n < 4
     choices_few AtEntry shown n = written_choice layout (is_known_at p) _ shown.entry n
     choices_few (AtHead stack b) shown n = written_choice layout (is_kept_at p) _ (shown.head _ refl) n
 
     head_by : (a : Anchor) (q : Question) (o : Option HeadStart) → wants_anchor q a ≡ true →
-        option_map written_head_of o ≡ (starts.shown_of entry head a choices).head → HasHead q o
+        option_map written_head_of o ≡ (starts.shown_of parts a choices []).head → HasHead q o
     head_by AtEntry EntryQuestion o wanted e = absurd (cc)
     head_by (AtHead stack b) EntryQuestion o wanted e = absurd (cc)
     head_by AtEntry FailQuestion None wanted e = refl
@@ -96,11 +96,11 @@ module _ (p : Program) (invariants : List ℕ) (k : ℕ) (layout : Layout) where
     head_by a TurnQuestion o wanted e = tt
 
   -- the state at entry is the same for all segments
-  state_same : (entry head : Written) (a b : Anchor) (xs ys : List (ℕ × ℕ)) → (begun entry head xs a).state ≡ (begun entry head ys b).state
-  state_same entry head AtEntry AtEntry xs ys = refl
-  state_same entry head AtEntry (AtHead stack at) xs ys = refl
-  state_same entry head (AtHead stack at) AtEntry xs ys = refl
-  state_same entry head (AtHead stack at) (AtHead more to) xs ys = refl
+  state_same : (parts : WrittenParts) (a b : Anchor) (xs ys : List (ℕ × ℕ)) → (begun parts xs a).state ≡ (begun parts ys b).state
+  state_same parts AtEntry AtEntry xs ys = refl
+  state_same parts AtEntry (AtHead stack at) xs ys = refl
+  state_same parts (AtHead stack at) AtEntry xs ys = refl
+  state_same parts (AtHead stack at) (AtHead more to) xs ys = refl
 
   module _ (question : Question) (u : Unrolled) (s : Segments) (i : ℕ) (ground : IsFrameGround f [] k layout u) (measurable : IsFrameMeasurable u)
       (segments : AreSegments f k layout question u s) (inside : i < length u.roots.items) (wanted : wants_anchor question (anchor_at u i) ≡ true) where
@@ -125,16 +125,16 @@ module _ (p : Program) (invariants : List ℕ) (k : ℕ) (layout : Layout) where
         none_wanted : (a : Anchor) → wants_anchor EntryQuestion a ≡ true → ⊥
         none_wanted a h = cc
     entry_by FailQuestion h want =
-        subst (IsEntryState p) (state_same (written_of s.parts.entry) (written_of s.parts.head) (anchor_at u 0) (anchor_at u i) (choices_at s.choices.items 0)
+        subst (IsEntryState p) (state_same (written_parts s.parts) (anchor_at u 0) (anchor_at u i) (choices_at s.choices.items 0)
         (choices_at s.choices.items i)) (h.1 w).1.entry
     entry_by StepQuestion h want =
-        subst (IsEntryState p) (state_same (written_of s.parts.entry) (written_of s.parts.head) (anchor_at u h.0) (anchor_at u i)
+        subst (IsEntryState p) (state_same (written_parts s.parts) (anchor_at u h.0) (anchor_at u i)
         (choices_at s.choices.items h.0) (choices_at s.choices.items i)) (h.2 w).1.entry
     entry_by TurnQuestion h want =
-        subst (IsEntryState p) (state_same (written_of s.parts.entry) (written_of s.parts.head) (anchor_at u h.0) (anchor_at u i)
+        subst (IsEntryState p) (state_same (written_parts s.parts) (anchor_at u h.0) (anchor_at u i)
         (choices_at s.choices.items h.0) (choices_at s.choices.items i)) (h.2 w).1.entry
 
-    given_is : (a : Anchor) (n : ℕ) → IsContent ((begun (written_of s.parts.entry) (written_of s.parts.head) (choices_at s.choices.items i) a).given n)
+    given_is : (a : Anchor) (n : ℕ) → IsContent ((begun (written_parts s.parts) (choices_at s.choices.items i) a).given n)
     given_is AtEntry n = record { regs = λ r. omega arith; flags = λ g. omega arith; mem = λ a. omega arith }
     given_is (AtHead stack b) n = record { regs = λ r. omega arith; flags = λ g. omega arith; mem = λ a. omega arith }
 
@@ -142,8 +142,8 @@ module _ (p : Program) (invariants : List ℕ) (k : ℕ) (layout : Layout) where
     start_if : IsHeadFor f its.state its.head → (n : ℕ) (z : Run) → IsOver z → run f k its n ≡ z → ((line at m : ℕ) → z ≢ Broken line at m) → IsStart f k its
     start_if h n z over e not = record {
       entry = entry_by question segments.shows wanted;
-      origin = origin_is (written_of s.parts.entry) (written_of s.parts.head) (choices_at s.choices.items i) (anchor_at u i) anchor h;
-      choices = choices_few (written_of s.parts.entry) (written_of s.parts.head) (choices_at s.choices.items i) (anchor_at u i) shown;
+      origin = origin_is (written_parts s.parts) (choices_at s.choices.items i) (anchor_at u i) anchor h;
+      choices = choices_few (written_parts s.parts) (choices_at s.choices.items i) (anchor_at u i) shown;
       given = given_is (anchor_at u i);
       is_run = λ b. not b.1 b.2 b.3 (one_end f k its n b.0 z (Broken b.1 b.2 b.3) over tt e b.4);
     }
@@ -179,7 +179,7 @@ module _ (p : Program) (invariants : List ℕ) (k : ℕ) (layout : Layout) where
       heads_by None e = tt
       heads_by (Some h) e = (
         shown.head (written_head_of h) (sym e),
-        head_there (written_of s.parts.entry) (written_of s.parts.head) (choices_at s.choices.items i) (anchor_at u i) anchor (written_head_of h) (sym e),
+        head_there (written_parts s.parts) (choices_at s.choices.items i) (anchor_at u i) anchor (written_head_of h) (sym e),
       )
 
       pub heads_written : IsHeadWritten p invariants layout x.head
@@ -220,7 +220,7 @@ module _ (p : Program) (invariants : List ℕ) (k : ℕ) (layout : Layout) where
         pub is_ended : is_end question (frame_found_of r) ≡ true → IsEnded p invariants k (points - 1) layout question (record { shown = x; ending = r })
         is_ended is = record {
           shown = subst (λ (z : reports.Shown). IsShown w f layout z) (sym same) shown;
-          head = head_by (written_of s.parts.entry) (written_of s.parts.head) (choices_at s.choices.items i) (anchor_at u i) question x.head wanted
+          head = head_by (written_parts s.parts) (choices_at s.choices.items i) (anchor_at u i) question x.head wanted
               (ap (λ (z : reports.Shown). z.head) same);
           start = subst (λ (z : reports.Shown). IsStart f k (shown_start w f layout z)) (sym same)
               (start_by (points - 1) (frame_found_of r) question is its_found (subst Fitting same begins));

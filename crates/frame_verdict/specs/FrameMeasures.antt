@@ -8,7 +8,7 @@ use Rattle.frame_spec.specs.FrameLaws.{HasPlaces}
 use Rattle.frame_spec.specs.FrameReports.{HasMore, IsWholePrice, IsWithin}
 use Rattle.frame_terms.specs.PassiveFrames.{IsWalkable}
 use Rattle.known_bytes.specs.Runs.{AreRuns}
-use Rattle.question_form.specs.Forms.{IsFormed, AreRootsFormed}
+use Rattle.question_form.specs.Forms.{IsFormed, AreRootsFormed, AreStepsFormed}
 use Rattle.question_form.specs.FrameViews.{frame_unrolled_of}
 use Rattle.question_form.specs.declared.unrolled.Unrolled.{Unrolled}
 use Rattle.passify.specs.Planted.{AreHeaded}
@@ -21,6 +21,7 @@ pub record IsFrameMeasurable (u : Unrolled) : Type 0 where
   pub walkable : IsWalkable (frame_unrolled_of u)
   pub formed : IsFormed u
   pub roots : AreRootsFormed u
+  pub steps : AreStepsFormed u
   pub headed : AreHeaded u
   pub own : BeginAtOwn u
   pub first : IsEntryFirst u

@@ -7,7 +7,7 @@ ghost use Rattle.machine_spec.specs.Machine.{IsAtPlace};
 ghost use Rattle.notes_value.specs.NoteViews.{notes_of};
 ghost use Rattle.notes_value.specs.Reads.{AreOver};
 ghost use Rattle.program_points.specs.Listed.{HasTooMany};
-ghost use Rattle.question_form.specs.Forms.{AreRootsFormed, IsFormed};
+ghost use Rattle.question_form.specs.Forms.{AreRootsFormed, AreStepsFormed, IsFormed};
 ghost use Rattle.table_run.specs.FrameEnds.{frame_of};
 ghost use Rattle.frame_verdict.specs.FrameMeasures.{IsFrameUnrolledOf, IsWeighed};
 
@@ -72,6 +72,7 @@ pub fn unroll_frame_within<'a, M: Machine>(
 pub fn price_above(budget: &Budget, unrolled: &Unrolled) -> Result<Option<u128>, AllocError>
     requires formed { IsFormed unrolled.now }
     requires roots { AreRootsFormed unrolled.now }
+    requires steps { AreStepsFormed unrolled.now }
     ensures { IfOk result (IsWeighed (budget_of budget.now) unrolled.now) }
 {
     let price = frame_price(unrolled);

@@ -12,15 +12,14 @@ use Rattle.term_spec.specs.Terms.{TermReading, HasWidth, term_word}
 use Rattle.term_dag.proofs.Ranges.{word_fits}
 use Rattle.mem_cells.specs.declared.building.Build.{Build}
 use Rattle.mem_cells.specs.declared.cells.Agreement.{Agreement}
-use Rattle.mem_cells.specs.declared.parts.Parts.{Parts}
 use Rattle.mem_cells.specs.declared.pieces.Split.{Split}
-use Rattle.mem_cells.specs.Parts.{part_of, is_read, one_if}
+use Rattle.mem_cells.specs.Parts.{has_part, is_read, parts_at}
 use Rattle.mem_cells.specs.Pieces.{IsSplit, lies_apart}
 use Rattle.mem_cells.specs.Building.{read_places, IsBuilt, Grown, IsWord}
-use Rattle.mem_cells.specs.Ties.{address_of, agreement, agreements_of, parts_at, shared, sum_at, AreBothRead, AreSums, AreTies, Before}
+use Rattle.mem_cells.specs.Ties.{address_of, agreement, agreements_of, shared, sum_at, AreBothRead, AreSums, AreTies, Before}
 use Rattle.mem_cells.proofs.Growing.{grown_word, grown_width, mapped_length}
 use Rattle.mem_cells.proofs.Chains.{split_kept}
-use Rattle.mem_cells.proofs.PartReads.{in_one, of_one}
+use Rattle.mem_cells.proofs.PartReads.{of_passed, passed_of, some_passed}
 
 -- addresses stay as nodes are added
 pub address_kept : (a b : Build) (g r : ℕ) (x : TermReading) (j : ℕ) → IsBuilt a → Grown a b g r → read_places b ≡ read_places a → j < length (read_places a) →
@@ -28,7 +27,7 @@ pub address_kept : (a b : Build) (g r : ℕ) (x : TermReading) (j : ℕ) → IsB
 address_kept a b g r x j c p e l = ap (λ z. term_word x b.dag (slice_index z j)) e ∙ grown_word a b g r x (slice_index (read_places a) j) p (c.addresses j l).0
 
 -- agreements stay as nodes are added
-pub ties_kept : (a b : Build) (g r : ℕ) (parts : List Parts) (ts : List Agreement) (pairs : ℕ → ℕ → Type 0) → IsBuilt a → Grown a b g r →
+pub ties_kept : (a b : Build) (g r : ℕ) (parts : List (List ℕ)) (ts : List Agreement) (pairs : ℕ → ℕ → Type 0) → IsBuilt a → Grown a b g r →
     read_places b ≡ read_places a → ((i j : ℕ) → pairs i j → (i < length (read_places a)) × (j < length (read_places a))) → AreTies a parts ts pairs →
     AreTies b parts ts pairs
 ties_kept a b g r parts ts pairs c p e within h = record {
@@ -59,41 +58,27 @@ and_true true b h e = e
 and_true false b h e = absurd (cc)
 
 -- one of the agreements of the parts of two addresses
-pub record IsSaid (parts : List Parts) (t : Term) (i j : ℕ) (a : Agreement) : Type 0 where
+pub record IsSaid (parts : List (List ℕ)) (t : Term) (i j : ℕ) (a : Agreement) : Type 0 where
   pub condition : a.condition ≡ t
   pub read : a.read ≡ i
   pub other : a.other ≡ j
   pub both : AreBothRead parts a
 
-said_by : (parts : List Parts) (t : Term) (i j p : ℕ) (a : Agreement) → (is_read parts p i ≡ true) × (is_read parts p j ≡ true) → a ≡ agreement t p i j →
+said_by : (parts : List (List ℕ)) (t : Term) (i j p : ℕ) (a : Agreement) → (is_read parts p i ≡ true) × (is_read parts p j ≡ true) → a ≡ agreement t p i j →
     IsSaid parts t i j a
 said_by parts t i j p a h e = subst (IsSaid parts t i j) (sym e) (record { condition = refl; read = refl; other = refl; both = h })
 
-pub said_of : (parts : List Parts) (t : Term) (i j : ℕ) (a : Agreement) → Contains (agreements_of (shared (parts_at parts i) (parts_at parts j)) t i j) a →
-    IsSaid parts t i j a
+pub said_of : (parts : List (List ℕ)) (t : Term) (i j : ℕ) (a : Agreement) →
+    Contains (agreements_of (shared (parts_at parts i) (parts_at parts j)) t i j) a → IsSaid parts t i j a
 said_of parts t i j a h =
-    let r = shared (parts_at parts i) (parts_at parts j) in
-    elim (Contains-append_cases (one_if r.entry (agreement t 0 i j)) (one_if r.head (agreement t 1 i j)) a h) [
-      | inl k ↦ (let o = of_one r.entry (agreement t 0 i j) a k in
-          said_by parts t i j 0 a (both_true (parts_at parts i).entry (parts_at parts j).entry o.0) o.1)
-      | inr k ↦ (let o = of_one r.head (agreement t 1 i j) a k in
-          said_by parts t i j 1 a (both_true (parts_at parts i).head (parts_at parts j).head o.0) o.1)
-    ]
+    let o = passed_of Agreement (λ p. agreement t p i j) (has_part (parts_at parts j)) (parts_at parts i) a h in said_by parts t i j o.part a (o.inside, o.passes) o.is
 
-said_for : (parts : List Parts) (t : Term) (i j p : ℕ) → is_read parts p i ≡ true → is_read parts p j ≡ true →
+said_for : (parts : List (List ℕ)) (t : Term) (i j p : ℕ) → is_read parts p i ≡ true → is_read parts p j ≡ true →
     Contains (agreements_of (shared (parts_at parts i) (parts_at parts j)) t i j) (agreement t p i j)
-said_for parts t i j zero h k =
-    let r = shared (parts_at parts i) (parts_at parts j) in
-    Contains-append_left (one_if r.entry (agreement t 0 i j)) (one_if r.head (agreement t 1 i j)) (agreement t 0 i j)
-    (in_one r.entry (agreement t 0 i j) (and_true (parts_at parts i).entry (parts_at parts j).entry h k))
-said_for parts t i j (suc zero) h k =
-    let r = shared (parts_at parts i) (parts_at parts j) in
-    Contains-append_right (one_if r.entry (agreement t 0 i j)) (one_if r.head (agreement t 1 i j)) (agreement t 1 i j)
-    (in_one r.head (agreement t 1 i j) (and_true (parts_at parts i).head (parts_at parts j).head h k))
-said_for parts t i j (suc (suc p)) h k = absurd (cc)
+said_for parts t i j p h k = of_passed (λ q. agreement t q i j) (has_part (parts_at parts j)) (parts_at parts i) p h k
 
 -- agreements of two addresses more
-pub ties_next : (b : Build) (parts : List Parts) (ts : List Agreement) (pairs : ℕ → ℕ → Type 0) (t : Term) (i j : ℕ) → AreTies b parts ts pairs →
+pub ties_next : (b : Build) (parts : List (List ℕ)) (ts : List Agreement) (pairs : ℕ → ℕ → Type 0) (t : Term) (i j : ℕ) → AreTies b parts ts pairs →
     i < length (read_places b) → j < length (read_places b) → IsWord b.dag 1 t.0 (λ x. bit (address_of b x i == address_of b x j)) →
     AreTies b parts (ts ++ agreements_of (shared (parts_at parts i) (parts_at parts j)) t i j) (λ m n. pairs m n ⊎ (m ≡ i) × (n ≡ j))
 ties_next b parts ts pairs t i j h li lj w =
@@ -130,7 +115,7 @@ apart_is : (p q : Split) → lies_apart p q 1 ≡ true → (p.base.0 ≡ q.base.
 apart_is p q h = grind (arith, nat_tests)
 
 -- two reads that are surely apart need none
-pub ties_apart : (b : Build) (parts : List Parts) (ts : List Agreement) (pairs : ℕ → ℕ → Type 0) (sums : List Split) (i j : ℕ) → IsBuilt b → AreSums b sums →
+pub ties_apart : (b : Build) (parts : List (List ℕ)) (ts : List Agreement) (pairs : ℕ → ℕ → Type 0) (sums : List Split) (i j : ℕ) → IsBuilt b → AreSums b sums →
     i < length (read_places b) → j < length (read_places b) →
     lies_apart (sum_at sums i) (sum_at sums j) 1 ≡ true → AreTies b parts ts pairs →
     AreTies b parts ts (λ m n. pairs m n ⊎ (m ≡ i) × (n ≡ j))
@@ -154,7 +139,7 @@ ties_apart b parts ts pairs sums i j c a li lj t h = record {
 }
 
 -- fewer pairs
-pub ties_fewer : (b : Build) (parts : List Parts) (ts : List Agreement) (ps qs : ℕ → ℕ → Type 0) → ((i j : ℕ) → qs i j → ps i j) → AreTies b parts ts ps →
+pub ties_fewer : (b : Build) (parts : List (List ℕ)) (ts : List Agreement) (ps qs : ℕ → ℕ → Type 0) → ((i j : ℕ) → qs i j → ps i j) → AreTies b parts ts ps →
     AreTies b parts ts qs
 ties_fewer b parts ts ps qs f h = record {
   formed = h.formed;
@@ -164,7 +149,7 @@ ties_fewer b parts ts ps qs f h = record {
 }
 
 -- two addresses at which no part is read need none
-pub ties_unread : (b : Build) (parts : List Parts) (ts : List Agreement) (pairs : ℕ → ℕ → Type 0) (i j : ℕ) →
+pub ties_unread : (b : Build) (parts : List (List ℕ)) (ts : List Agreement) (pairs : ℕ → ℕ → Type 0) (i j : ℕ) →
     ((p : ℕ) → is_read parts p i ≡ true → is_read parts p j ≡ true → ⊥) → AreTies b parts ts pairs →
     AreTies b parts ts (λ m n. pairs m n ⊎ (m ≡ i) × (n ≡ j))
 ties_unread b parts ts pairs i j u h = record {
@@ -176,13 +161,6 @@ ties_unread b parts ts pairs i j u h = record {
     | inr p ↦ absurd (u part (ap (is_read parts part) (sym p.0) ∙ rm) (ap (is_read parts part) (sym p.1) ∙ rn))
   ];
 }
-
--- so it is, where they have no part in common
-none_shared : (parts : List Parts) (i j : ℕ) → ((p : ℕ) → part_of (shared (parts_at parts i) (parts_at parts j)) p ≡ true → ⊥) → (p : ℕ) →
-    is_read parts p i ≡ true → is_read parts p j ≡ true → ⊥
-none_shared parts i j n zero a b = n 0 (and_true (parts_at parts i).entry (parts_at parts j).entry a b)
-none_shared parts i j n (suc zero) a b = n 1 (and_true (parts_at parts i).head (parts_at parts j).head a b)
-none_shared parts i j n (suc (suc p)) a b = absurd (cc)
 
 -- one pair more
 pub one_pair : (other read i j : ℕ) → Before other (read + 1) i j → Before other read i j ⊎ (i ≡ read) × (j ≡ other)
@@ -219,15 +197,16 @@ sums_kept a b g sums c p h j l =
     (split_kept a b g 0 (slice_index (read_places a) j) (sum_at sums j).base.0 (sum_at sums j).offset p (c.addresses j k).0 (h j k))
 
 -- a tie of two addresses
-pub tied : (a b : Build) (g : ℕ) (parts : List Parts) (ts us : List Agreement) (t : Term) (r : Parts) (left right other read : ℕ) → IsBuilt a → Grown a b g 0 →
-    us ≡ ts ++ agreements_of r t read other → r ≡ shared (parts_at parts read) (parts_at parts other) → read < other → other < length (read_places a) →
+pub tied : (a b : Build) (g : ℕ) (parts : List (List ℕ)) (ts us : List Agreement) (t : Term) (r s : List ℕ) (left right other read : ℕ) → IsBuilt a →
+    Grown a b g 0 → us ≡ ts ++ agreements_of (shared r s) t read other → r ≡ parts_at parts read → s ≡ parts_at parts other → read < other → other < length (read_places a) →
     left ≡ slice_index (read_places a) read → right ≡ slice_index (read_places a) other →
     IsWord b.dag 1 t.0 (λ x. bit (term_word x a.dag left == term_word x a.dag right)) →
     AreTies a parts ts (Before other read) → AreTies b parts us (Before other (read + 1))
-tied a b g parts ts us t r left right other read c p e er l lo hl hr w h =
+tied a b g parts ts us t r q left right other read c p e er eq l lo hl hr w h =
     let s = same_reads a b g p in
     let lr : read < length (read_places a) = omega (arith, l, lo) in
-    subst (λ (z : List Agreement). AreTies b parts z (Before other (read + 1))) (sym (e ∙ ap (λ z. ts ++ agreements_of z t read other) er))
+    subst (λ (z : List Agreement). AreTies b parts z (Before other (read + 1))) (sym (e ∙ ap (λ z. ts ++ agreements_of (shared z q) t read other) er
+    ∙ ap (λ z. ts ++ agreements_of (shared (parts_at parts read) z) t read other) eq))
     (ties_fewer b parts (ts ++ agreements_of (shared (parts_at parts read) (parts_at parts other)) t read other)
     (λ i j. Before other read i j ⊎ (i ≡ read) × (j ≡ other)) (Before other (read + 1)) (one_pair other read)
     (ties_next b parts ts (Before other read) t read other (ties_kept a b g 0 parts ts (Before other read) c p s (pairs_within _ other read lo) h)
@@ -241,7 +220,7 @@ tied a b g parts ts us t r left right other read c p e er l lo hl hr w h =
     })))
 
 -- two addresses that are surely apart
-pub untied : (a : Build) (parts : List Parts) (ts : List Agreement) (sums : List Split) (other read : ℕ) → IsBuilt a → AreSums a sums → read < other →
+pub untied : (a : Build) (parts : List (List ℕ)) (ts : List Agreement) (sums : List Split) (other read : ℕ) → IsBuilt a → AreSums a sums → read < other →
     other < length (read_places a) →
     lies_apart (sum_at sums read) (sum_at sums other) 1 ≡ true → AreTies a parts ts (Before other read) → AreTies a parts ts (Before other (read + 1))
 untied a parts ts sums other read c s l lo t h =
@@ -249,12 +228,12 @@ untied a parts ts sums other read c s l lo t h =
     (ties_apart a parts ts (Before other read) sums read other c s (omega (arith, l, lo)) lo t h)
 
 -- two addresses without a part in common
-pub unshared : (a : Build) (parts : List Parts) (ts : List Agreement) (r : Parts) (other read : ℕ) → r ≡ shared (parts_at parts read) (parts_at parts other) →
-    ((p : ℕ) → part_of r p ≡ true → ⊥) → AreTies a parts ts (Before other read) → AreTies a parts ts (Before other (read + 1))
-unshared a parts ts r other read e n h =
+pub unshared : (a : Build) (parts : List (List ℕ)) (ts : List Agreement) (r s : List ℕ) (other read : ℕ) → r ≡ parts_at parts read → s ≡ parts_at parts other →
+    shared r s ≡ [] → AreTies a parts ts (Before other read) → AreTies a parts ts (Before other (read + 1))
+unshared a parts ts r s other read er es n h =
     ties_fewer a parts ts (λ i j. Before other read i j ⊎ (i ≡ read) × (j ≡ other)) (Before other (read + 1)) (one_pair other read)
     (ties_unread a parts ts (Before other read) read other
-    (none_shared parts read other (subst (λ (z : Parts). (p : ℕ) → part_of z p ≡ true → ⊥) e n)) h)
+    (λ p x y. some_passed (has_part s) r p n (ap (λ z. has_part z p) er ∙ x) (ap (λ z. has_part z p) es ∙ y)) h)
 
 -- an address of a list of terms, by its place
 pub mapped_at : (ts : List Term) (i : ℕ) (d : Term) → i < length ts → (get_or ts i d).0 ≡ slice_index (map (λ (z : Term). z.0) ts) i
@@ -292,7 +271,7 @@ one_row_more (suc j) =
     ap (λ z. 16 * (suc j * z) + 32 * suc j) p ∙ e ∙ ap (λ z. 16 * ((suc j + 1) * z)) (sym q)
 
 -- no reads, no pairs
-pub ties_none : (b : Build) (parts : List Parts) → AreTies b parts [] (Before 0 0)
+pub ties_none : (b : Build) (parts : List (List ℕ)) → AreTies b parts [] (Before 0 0)
 ties_none b parts = record {
   formed = λ a k. absurd (omega (arith, k.1));
   read = λ a k. absurd (omega (arith, k.1));

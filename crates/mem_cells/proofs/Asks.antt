@@ -1,5 +1,5 @@
 -- What is said of reads and bytes of the file, one pair after another.
-use Rattle.std.proofs.Common.{◌≡◌, ◌⊎◌, inl, inr, ℕ, zero, suc, ◌+◌, ◌*◌, ◌<◌, ◌==◌, true, false, List, ◌++◌, length, take, refl, ap, sym, ◌∙◌, subst, arith}
+use Rattle.std.proofs.Common.{◌≡◌, ◌⊎◌, inl, inr, ℕ, ◌+◌, ◌*◌, ◌<◌, ◌==◌, true, false, List, [], ◌++◌, length, take, refl, ap, sym, ◌∙◌, subst, arith}
 use Rattle.std.specs.Prelude.{slice_index, Contains}
 use Rattle.std.proofs.lemmas.Bool.{cases_lt}
 use Rattle.std.proofs.lemmas.List.{take_more}
@@ -10,17 +10,16 @@ use Rattle.term_dag.specs.declared.nodes.Term.{Term}
 use Rattle.mem_cells.specs.declared.building.Build.{Build}
 use Rattle.mem_cells.specs.declared.cells.AskedByte.{AskedByte}
 use Rattle.mem_cells.specs.declared.file_bytes.FileByte.{FileByte}
-use Rattle.mem_cells.specs.declared.parts.Parts.{Parts}
-use Rattle.mem_cells.specs.Parts.{part_of, is_read, one_if}
+use Rattle.mem_cells.specs.Parts.{has_part, is_read, parts_at}
 use Rattle.mem_cells.specs.Building.{read_places, IsBuilt, Grown, IsWord}
-use Rattle.mem_cells.specs.Ties.{address_of, parts_at}
+use Rattle.mem_cells.specs.Ties.{address_of}
 use Rattle.mem_cells.specs.Asked.{asked, asked_of_parts, file_byte_at, is_of_part, parts_asked, AreAsked, AskedOf, AskedTo}
 use Rattle.mem_cells.proofs.Growing.{grown_word, grown_width}
-use Rattle.mem_cells.proofs.PartReads.{in_one, of_one}
-use Rattle.mem_cells.proofs.Agreements.{address_kept, and_true, both_true, same_reads, one_is, is_one}
+use Rattle.mem_cells.proofs.PartReads.{of_passed, passed_of, some_passed}
+use Rattle.mem_cells.proofs.Agreements.{address_kept, same_reads, one_is, is_one}
 
 -- what is said stays as nodes are added
-pub asked_kept : (a b : Build) (g : ℕ) (parts : List Parts) (file : List FileByte) (xs : List AskedByte) (pairs : ℕ → FileByte → Type 0) → IsBuilt a →
+pub asked_kept : (a b : Build) (g : ℕ) (parts : List (List ℕ)) (file : List FileByte) (xs : List AskedByte) (pairs : ℕ → FileByte → Type 0) → IsBuilt a →
     Grown a b g 0 →
     ((j : ℕ) (f : FileByte) → pairs j f → j < length (read_places a)) → AreAsked a parts file xs pairs → AreAsked b parts file xs pairs
 asked_kept a b g parts file xs pairs c p within h =
@@ -38,40 +37,28 @@ asked_kept a b g parts file xs pairs c p within h =
     }
 
 -- one of the bytes that are asked of the parts of an address
-pub record IsAskedOf (parts : List Parts) (t : Term) (j : ℕ) (f : FileByte) (a : AskedByte) : Type 0 where
+pub record IsAskedOf (parts : List (List ℕ)) (t : Term) (j : ℕ) (f : FileByte) (a : AskedByte) : Type 0 where
   pub condition : a.condition ≡ t
   pub at : a.read ≡ j
   pub byte : f.byte ≡ a.byte
   pub read : is_read parts a.part a.read ≡ true
   pub of : is_of_part f a.part ≡ true
 
-asked_by : (parts : List Parts) (t : Term) (j p : ℕ) (f : FileByte) (a : AskedByte) → is_read parts p j ≡ true → is_of_part f p ≡ true →
+asked_by : (parts : List (List ℕ)) (t : Term) (j p : ℕ) (f : FileByte) (a : AskedByte) → is_read parts p j ≡ true → is_of_part f p ≡ true →
     a ≡ asked t p j f.byte → IsAskedOf parts t j f a
 asked_by parts t j p f a r o e = subst (IsAskedOf parts t j f) (sym e) (record { condition = refl; at = refl; byte = refl; read = r; of = o })
 
-asked_is : (parts : List Parts) (t : Term) (j : ℕ) (f : FileByte) (a : AskedByte) → Contains (asked_of_parts (parts_asked (parts_at parts j) f) t j f.byte) a →
-    IsAskedOf parts t j f a
+asked_is : (parts : List (List ℕ)) (t : Term) (j : ℕ) (f : FileByte) (a : AskedByte) →
+    Contains (asked_of_parts (parts_asked (parts_at parts j) f) t j f.byte) a → IsAskedOf parts t j f a
 asked_is parts t j f a h =
-    let r = parts_asked (parts_at parts j) f in
-    elim (Contains-append_cases (one_if r.entry (asked t 0 j f.byte)) (one_if r.head (asked t 1 j f.byte)) a h) [
-      | inl k ↦ (let o = of_one r.entry (asked t 0 j f.byte) a k in asked_by parts t j 0 f a o.0 refl o.1)
-      | inr k ↦ (let o = of_one r.head (asked t 1 j f.byte) a k in let b = both_true (parts_at parts j).head f.head o.0 in
-          asked_by parts t j 1 f a b.0 b.1 o.1)
-    ]
+    let o = passed_of AskedByte (λ p. asked t p j f.byte) (is_of_part f) (parts_at parts j) a h in asked_by parts t j o.part f a o.inside o.passes o.is
 
-asked_for : (parts : List Parts) (t : Term) (j p : ℕ) (f : FileByte) → is_read parts p j ≡ true → is_of_part f p ≡ true →
+asked_for : (parts : List (List ℕ)) (t : Term) (j p : ℕ) (f : FileByte) → is_read parts p j ≡ true → is_of_part f p ≡ true →
     Contains (asked_of_parts (parts_asked (parts_at parts j) f) t j f.byte) (asked t p j f.byte)
-asked_for parts t j zero f h k =
-    let r = parts_asked (parts_at parts j) f in
-    Contains-append_left (one_if r.entry (asked t 0 j f.byte)) (one_if r.head (asked t 1 j f.byte)) (asked t 0 j f.byte) (in_one r.entry (asked t 0 j f.byte) h)
-asked_for parts t j (suc zero) f h k =
-    let r = parts_asked (parts_at parts j) f in
-    Contains-append_right (one_if r.entry (asked t 0 j f.byte)) (one_if r.head (asked t 1 j f.byte)) (asked t 1 j f.byte)
-    (in_one r.head (asked t 1 j f.byte) (and_true (parts_at parts j).head f.head h k))
-asked_for parts t j (suc (suc p)) f h k = absurd (cc)
+asked_for parts t j p f h k = of_passed (λ q. asked t q j f.byte) (is_of_part f) (parts_at parts j) p h k
 
 -- one more pair
-asked_next : (b : Build) (parts : List Parts) (file : List FileByte) (xs : List AskedByte) (pairs : ℕ → FileByte → Type 0) (t : Term) (j : ℕ) (f : FileByte) →
+asked_next : (b : Build) (parts : List (List ℕ)) (file : List FileByte) (xs : List AskedByte) (pairs : ℕ → FileByte → Type 0) (t : Term) (j : ℕ) (f : FileByte) →
     AreAsked b parts file xs pairs → Contains file f → j < length (read_places b) → IsWord b.dag 1 t.0 (λ x. bit (address_of b x j == f.at)) →
     AreAsked b parts file (xs ++ asked_of_parts (parts_asked (parts_at parts j) f) t j f.byte) (λ i g. pairs i g ⊎ (g ≡ f) × (i ≡ j))
 asked_next b parts file xs pairs t j f h k l w =
@@ -103,7 +90,7 @@ asked_next b parts file xs pairs t j f h k l w =
     }
 
 -- a pair of which nothing has to be said
-asked_never : (b : Build) (parts : List Parts) (file : List FileByte) (xs : List AskedByte) (pairs : ℕ → FileByte → Type 0) (f : FileByte) (j : ℕ) →
+asked_never : (b : Build) (parts : List (List ℕ)) (file : List FileByte) (xs : List AskedByte) (pairs : ℕ → FileByte → Type 0) (f : FileByte) (j : ℕ) →
     ((x : TermReading) → InRange x → (p : ℕ) → is_read parts p j ≡ true → is_of_part f p ≡ true → address_of b x j ≡ f.at → ⊥) →
     AreAsked b parts file xs pairs → AreAsked b parts file xs (λ i g. pairs i g ⊎ (g ≡ f) × (i ≡ j))
 asked_never b parts file xs pairs f j n h = record {
@@ -118,7 +105,7 @@ asked_never b parts file xs pairs f j n h = record {
 }
 
 -- fewer pairs
-pub asked_fewer : (b : Build) (parts : List Parts) (file : List FileByte) (xs : List AskedByte) (ps qs : ℕ → FileByte → Type 0) →
+pub asked_fewer : (b : Build) (parts : List (List ℕ)) (file : List FileByte) (xs : List AskedByte) (ps qs : ℕ → FileByte → Type 0) →
     ((j : ℕ) (f : FileByte) → qs j f → ps j f) → AreAsked b parts file xs ps → AreAsked b parts file xs qs
 asked_fewer b parts file xs ps qs f h = record {
   formed = h.formed;
@@ -158,9 +145,9 @@ moved_word a b g left right read at t c p l hl r w =
     }
 
 -- an address and a byte
-pub asked_one : (a b : Build) (g : ℕ) (parts : List Parts) (file : List FileByte) (xs ys : List AskedByte) (t : Term) (r : Parts) (left right k read : ℕ) →
+pub asked_one : (a b : Build) (g : ℕ) (parts : List (List ℕ)) (file : List FileByte) (xs ys : List AskedByte) (t : Term) (r : List ℕ) (left right k read : ℕ) →
     IsBuilt a →
-    Grown a b g 0 → ys ≡ xs ++ asked_of_parts r t read (file_byte_at file k).byte → r ≡ parts_asked (parts_at parts read) (file_byte_at file k) →
+    Grown a b g 0 → ys ≡ xs ++ asked_of_parts (parts_asked r (file_byte_at file k)) t read (file_byte_at file k).byte → r ≡ parts_at parts read →
     k < length file → read < length (read_places a) → left ≡ slice_index (read_places a) read →
     IsWord a.dag 32 right (λ x. (file_byte_at file k).at) →
     IsWord b.dag 1 t.0 (λ x. bit (term_word x a.dag left == term_word x a.dag right)) →
@@ -172,7 +159,7 @@ asked_one a b g parts file xs ys t r left right k read c p e er lk lr hl rw w h 
     let old = AskedTo (length (read_places a)) (take k file) f read in
     let more = asked_of_parts (parts_asked (parts_at parts read) f) t read f.byte in
     subst (λ (z : List AskedByte). AreAsked b parts file z (AskedTo (length (read_places b)) (take k file) f (read + 1)))
-    (sym (e ∙ ap (λ z. xs ++ asked_of_parts z t read f.byte) er))
+    (sym (e ∙ ap (λ z. xs ++ asked_of_parts (parts_asked z f) t read f.byte) er))
     (subst (λ (z : ℕ). AreAsked b parts file (xs ++ more) (AskedTo z (take k file) f (read + 1))) (sym s)
     (asked_fewer b parts file (xs ++ more) (λ j q. old j q ⊎ (q ≡ f) × (j ≡ read)) (AskedTo (length (read_places a)) (take k file) f (read + 1))
     (one_pair (length (read_places a)) (take k file) f read)
@@ -183,7 +170,7 @@ zero_is : (a b : ℕ) → bit (a == b) ≡ 0 → a ≡ b → ⊥
 zero_is a b h e = let o = is_one a b e in absurd (omega (arith, h, o))
 
 -- an address that is surely not that of a byte
-pub asked_none_of : (a b : Build) (g : ℕ) (parts : List Parts) (file : List FileByte) (xs : List AskedByte) (left right k read t : ℕ) → IsBuilt a →
+pub asked_none_of : (a b : Build) (g : ℕ) (parts : List (List ℕ)) (file : List FileByte) (xs : List AskedByte) (left right k read t : ℕ) → IsBuilt a →
     Grown a b g 0 →
     read < length (read_places a) →
     left ≡ slice_index (read_places a) read → IsWord a.dag 32 right (λ x. (file_byte_at file k).at) →
@@ -202,13 +189,8 @@ asked_none_of a b g parts file xs left right k read t c p lr hl r w z h =
     (asked_kept a b g parts file xs old c p (to_within (length (read_places a)) (take k file) f read lr) h)))
 
 -- the byte is asked of no part that is read there
-none_asked : (r : Parts) (f : FileByte) → ((p : ℕ) → part_of (parts_asked r f) p ≡ true → ⊥) → (p : ℕ) → part_of r p ≡ true → is_of_part f p ≡ true → ⊥
-none_asked r f n zero h o = n 0 h
-none_asked r f n (suc zero) h o = n 1 (and_true r.head f.head h o)
-none_asked r f n (suc (suc p)) h o = absurd (cc)
-
-pub asked_unread : (a : Build) (parts : List Parts) (file : List FileByte) (xs : List AskedByte) (r : Parts) (k read : ℕ) →
-    r ≡ parts_asked (parts_at parts read) (file_byte_at file k) → ((p : ℕ) → part_of r p ≡ true → ⊥) →
+pub asked_unread : (a : Build) (parts : List (List ℕ)) (file : List FileByte) (xs : List AskedByte) (r : List ℕ) (k read : ℕ) →
+    r ≡ parts_at parts read → parts_asked r (file_byte_at file k) ≡ [] →
     AreAsked a parts file xs (AskedTo (length (read_places a)) (take k file) (file_byte_at file k) read) →
     AreAsked a parts file xs (AskedTo (length (read_places a)) (take k file) (file_byte_at file k) (read + 1))
 asked_unread a parts file xs r k read e n h =
@@ -216,11 +198,10 @@ asked_unread a parts file xs r k read e n h =
     let old = AskedTo (length (read_places a)) (take k file) f read in
     asked_fewer a parts file xs (λ j q. old j q ⊎ (q ≡ f) × (j ≡ read)) (AskedTo (length (read_places a)) (take k file) f (read + 1))
     (one_pair (length (read_places a)) (take k file) f read)
-    (asked_never a parts file xs old f read
-    (λ x i p r o z. none_asked (parts_at parts read) f (subst (λ (y : Parts). (p : ℕ) → part_of y p ≡ true → ⊥) e n) p r o) h)
+    (asked_never a parts file xs old f read (λ x i p m o z. some_passed (is_of_part f) r p n (ap (λ y. has_part y p) e ∙ m) o) h)
 
 -- no pair of one byte more
-pub asked_row : (a b : Build) (g : ℕ) (parts : List Parts) (file : List FileByte) (xs : List AskedByte) (now : FileByte) (bytes : List FileByte) → IsBuilt a →
+pub asked_row : (a b : Build) (g : ℕ) (parts : List (List ℕ)) (file : List FileByte) (xs : List AskedByte) (now : FileByte) (bytes : List FileByte) → IsBuilt a →
     Grown a b g 0 → AreAsked a parts file xs (AskedOf (length (read_places a)) bytes) →
     AreAsked b parts file xs (AskedTo (length (read_places b)) bytes now 0)
 asked_row a b g parts file xs now bytes c p h =
@@ -233,7 +214,7 @@ asked_row a b g parts file xs now bytes c p h =
     none n j f (inr s) = absurd (omega (arith, s.1))
 
 -- all pairs of one byte more
-pub asked_all : (b : Build) (parts : List Parts) (file : List FileByte) (xs : List AskedByte) (k : ℕ) → k < length file →
+pub asked_all : (b : Build) (parts : List (List ℕ)) (file : List FileByte) (xs : List AskedByte) (k : ℕ) → k < length file →
     AreAsked b parts file xs (AskedTo (length (read_places b)) (take k file) (file_byte_at file k) (length (read_places b))) →
     AreAsked b parts file xs (AskedOf (length (read_places b)) (take (k + 1) file))
 asked_all b parts file xs k l h =

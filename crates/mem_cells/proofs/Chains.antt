@@ -1,6 +1,6 @@
 -- The bytes of pieces, one after another.
 use Rattle.std.proofs.Common.{◌≡◌, ℕ, zero, suc, ◌+◌, ◌<◌, Bool, true, false, List, [], ◌∷◌, ◌++◌, length, take, get_or, true≢false, refl, ap, sym, ◌∙◌, subst, arith, inl, inr}
-use Rattle.std.specs.Prelude.{sum_by}
+use Rattle.std.specs.Prelude.{if◌then◌else◌, sum_by}
 use Rattle.std.proofs.lemmas.Bool.{cases_lt}
 use Rattle.std.proofs.lemmas.List.{get_or_append_left}
 use Rattle.std.proofs.lemmas.List.Sums.{sum_by-append}
@@ -13,11 +13,13 @@ use Rattle.mem_cells.specs.declared.building.Build.{Build}
 use Rattle.mem_cells.specs.declared.pieces.Split.{Split}
 use Rattle.mem_cells.specs.declared.pieces.StoredByte.{StoredByte}
 use Rattle.mem_cells.specs.declared.pieces.Piece.{Piece}
-use Rattle.mem_cells.specs.declared.pieces.Piece.TheVariants.{Entry, Store, Join}
-use Rattle.mem_cells.specs.Pieces.{puts, put_bytes, piece_byte, piece_at, stored_at, ends_in, bool_at, link, IsSplit, AreBytes, IsStored, IsPiece, ArePieces, IsRising, Needs, AreClosed}
+use Rattle.mem_cells.specs.declared.pieces.Piece.TheVariants.{Entry, Store, Take, Join}
+use Rattle.mem_cells.specs.declared.pieces.Taken.{Taken}
+use Rattle.mem_cells.specs.Pieces.{puts, put_bytes, piece_byte, piece_at, stored_at, ends_in, bool_at, is_among, link, taken_over, IsSplit, IsTaken, AreBytes, IsStored, IsPiece, ArePieces, IsRising, Needs, AreClosed}
 use Rattle.mem_cells.specs.Building.{IsBuilt, Grown, IsByte, IsByteOf}
 use Rattle.mem_cells.proofs.Growing.{grown_word, grown_width, gives_before, part_kept}
 use Rattle.mem_cells.proofs.Puts.{puts_same, put_within}
+use Rattle.mem_cells.proofs.TakenBytes.{take_within}
 
 -- what is kept of pieces as cells grow
 pub stored_kept : (a b : Build) (g r : ℕ) (stored : List StoredByte) (s : Split) (f n : ℕ) → Grown a b g r → IsStored a.dag stored s f n →
@@ -36,15 +38,6 @@ stored_kept a b g r stored s f n p h = record {
       ∙ ap (λ z. add 32 (add 32 z s.offset) k) (sym (grown_word a b g r x s.base.0 p h.base.0));
 }
 
-pub piece_kept : (a b : Build) (g r : ℕ) (stored : List StoredByte) (q : ℕ) (z : Piece) → Grown a b g r → IsPiece a stored q z → IsPiece b stored q z
-piece_kept a b g r stored q (Entry part) p h = part_kept a b part p.question h
-piece_kept a b g r stored q (Store m s f n) p h = (h.0, stored_kept a b g r stored s f n p h.1)
-piece_kept a b g r stored q (Join c m n) p h = (grown_width a b g r 1 c.0 p h.0, h.1, h.2)
-
-pub pieces_kept : (a b : Build) (g r : ℕ) (stored : List StoredByte) (pieces : List Piece) → Grown a b g r → ArePieces a stored pieces →
-    ArePieces b stored pieces
-pieces_kept a b g r stored pieces p h q l = piece_kept a b g r stored q (piece_at pieces q) p (h q l)
-
 pub split_kept : (a b : Build) (g r t base offset : ℕ) → Grown a b g r → t < length a.dag → IsSplit a.dag t base offset → IsSplit b.dag t base offset
 split_kept a b g r t base offset p l h = record {
   place = grown_width a b g r 32 base p h.place;
@@ -52,10 +45,34 @@ split_kept a b g r t base offset p l h = record {
   value = λ x i. grown_word a b g r x t p l ∙ h.value x i ∙ ap (λ z. add 32 z offset) (sym (grown_word a b g r x base p h.place.0));
 }
 
+pub taken_kept : (a b : Build) (g r : ℕ) (t : Taken) → Grown a b g r → IsTaken a t → IsTaken b t
+taken_kept a b g r t p h = record {
+  part = part_kept a b t.part p.question h.part;
+  some = h.some;
+  few = h.few;
+  first = grown_width a b g r 32 t.first.0 p h.first;
+  second = λ e. (
+    grown_width a b g r 32 t.second.0 p (h.second e).0,
+    λ x i. grown_word a b g r x t.second.0 p (h.second e).0.0 ∙ (h.second e).1 x i ∙ ap (λ z. add 32 z 1) (sym (grown_word a b g r x t.first.0 p h.first.0)),
+  );
+  split = split_kept a b g r t.first.0 t.at.base.0 t.at.offset p h.first.0 h.split;
+}
+
+pub piece_kept : (a b : Build) (g r : ℕ) (stored : List StoredByte) (q : ℕ) (z : Piece) → Grown a b g r → IsPiece a stored q z → IsPiece b stored q z
+piece_kept a b g r stored q (Entry part) p h = part_kept a b part p.question h
+piece_kept a b g r stored q (Store m s f n) p h = (h.0, stored_kept a b g r stored s f n p h.1)
+piece_kept a b g r stored q (Take m t) p h = (h.0, taken_kept a b g r t p h.1)
+piece_kept a b g r stored q (Join c m n) p h = (grown_width a b g r 1 c.0 p h.0, h.1, h.2)
+
+pub pieces_kept : (a b : Build) (g r : ℕ) (stored : List StoredByte) (pieces : List Piece) → Grown a b g r → ArePieces a stored pieces →
+    ArePieces b stored pieces
+pieces_kept a b g r stored pieces p h q l = piece_kept a b g r stored q (piece_at pieces q) p (h q l)
+
 -- pieces rise
 pub piece_rises : (b : Build) (stored : List StoredByte) (q : ℕ) (z : Piece) → IsPiece b stored q z → IsRising q z
 piece_rises b stored q (Entry p) h = tt
 piece_rises b stored q (Store m s f n) h = h.0
+piece_rises b stored q (Take m t) h = h.0
 piece_rises b stored q (Join c m n) h = (h.1, h.2)
 
 -- stored bytes have their words as cells grow
@@ -83,6 +100,16 @@ piece_agrees a b g r x stored q (Store m to f k) at t chain bytes marks c p i h 
         ≡ put_bytes (term_word x a.dag) stored f k t (bytes m)
     below true y = put_within a stored at to f k t x _ _ c i h.1 s y
     below false y = ap (put_bytes (term_word x a.dag) stored f k t) (e m h.0 (n y))
+piece_agrees a b g r x stored q (Take m k) at t chain bytes marks c p i h w s n e =
+    ap (taken_over (term_word x b.dag) x.mem k (term_word x b.dag (link chain m))) (grown_word a b g r x t p w.0)
+    ∙ ap (λ z. if is_among z k.bytes (term_word x a.dag t) then x.mem k.part (term_word x a.dag t) else term_word x b.dag (link chain m))
+    (grown_word a b g r x k.first.0 p h.1.first.0)
+    ∙ below (ends_in at k.at k.bytes) refl
+  where
+    below : (y : Bool) → ends_in at k.at k.bytes ≡ y → taken_over (term_word x a.dag) x.mem k (term_word x b.dag (link chain m)) (term_word x a.dag t)
+        ≡ taken_over (term_word x a.dag) x.mem k (bytes m) (term_word x a.dag t)
+    below true y = take_within a k at t x _ _ c i h.1 s y
+    below false y = ap (λ z. taken_over (term_word x a.dag) x.mem k z (term_word x a.dag t)) (e m h.0 (n y))
 piece_agrees a b g r x stored q (Join d m o) at t chain bytes marks c p i h w s n e =
     ap (λ z. select z (term_word x b.dag (link chain m)) (term_word x b.dag (link chain o))) (grown_word a b g r x d.0 p h.0.0)
     ∙ ap (λ z. select (term_word x a.dag d.0) z (term_word x b.dag (link chain o))) (e m h.1 n.0)
@@ -185,6 +212,8 @@ piece_words a b g r x m stored q (Store d to f k) bytes i p h =
     puts_same i _ _ _ _ k (bytes d)
     (λ n l. grown_word a b g r x (stored_at stored (f + n)).address.0 p (h.1.are.addresses n l).0)
     (λ n l. grown_word a b g r x (stored_at stored (f + n)).value.0 p (h.1.are.values n l).0)
+piece_words a b g r x m stored q (Take d k) bytes i p h =
+    ap (λ z. if is_among z k.bytes i then m k.part i else bytes d) (grown_word a b g r x k.first.0 p h.1.first.0)
 piece_words a b g r x m stored q (Join c d e) bytes i p h = ap (λ z. select z (bytes d) (bytes e)) (grown_word a b g r x c.0 p h.0.0)
 
 -- the byte of a piece at the address of a term that was there before

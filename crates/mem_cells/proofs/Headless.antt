@@ -1,6 +1,7 @@
 -- Cells of questions of frames, and of those of programs.
-use Rattle.std.proofs.Common.{◌≡◌, ℕ, zero, suc, ◌+◌, ◌*◌, ◌<◌, ◌≤◌, Bool, true, false, List, [], ◌∷◌, length, map, refl, ap, sym, ◌∙◌, subst, arith}
-use Rattle.std.specs.Prelude.{◌&&◌, slice_index, Contains}
+use Rattle.std.proofs.Common.{◌≡◌, ℕ, zero, suc, ◌+◌, ◌*◌, ◌≤◌, Bool, true, false, List, [], ◌∷◌, Some, None, length, map, refl, ap, sym, ◌∙◌, subst, arith}
+use Rattle.std.specs.Prelude.{◌&&◌, slice_index_or, Contains}
+use Rattle.std.proofs.Math.Nat.{mul-le-mul_right}
 use Rattle.term_spec.specs.Terms.{TermNode, with_memories}
 use Rattle.walk_spec.specs.Unrolled as tables
 use Rattle.walk_spec.specs.Prices.{stores_of, edges_of}
@@ -8,7 +9,7 @@ use Rattle.term_spec.specs.WalkQuestions as walks
 use Rattle.term_spec.specs.WalkQuestions.{Room, is_asked}
 use Rattle.term_spec.specs.Cells as cells
 use Rattle.frame_spec.specs.FrameQuestions.{asks_head}
-use Rattle.frame_spec.specs.FrameWalk.{UnrolledProgram}
+use Rattle.frame_spec.specs.FrameWalk.{StepsOver, Gift, UnrolledProgram, no_point}
 use Rattle.frame_laws.specs.HeadlessLaws.{as_unrolled}
 use Rattle.frame_laws.specs.FramePrices as prices
 use Rattle.frame_terms.specs.PassiveFrames as frames
@@ -21,7 +22,13 @@ use Rattle.question_form.specs.declared.questions.Question.{Question}
 use Rattle.question_form.specs.declared.unrolled.Unrolled.{Unrolled}
 use Rattle.question_form.specs.Questions.{program_of_question, term_of}
 use Rattle.question_form.specs.FrameQuestions.{frame_of_question, heads_of_question, frame_question_of, is_of_heads}
-use Rattle.question_form.specs.FrameViews.{frame_unrolled_of, IsHeadless}
+use Rattle.program_points.specs.Tables.{stack_at}
+use Rattle.question_form.specs.declared.unrolled.Deed.{Deed}
+use Rattle.question_form.specs.declared.unrolled.Deed.TheVariants as deeds
+use Rattle.question_form.specs.declared.unrolled.Deed.TheVariants.{Row, Arrival}
+use Rattle.question_form.specs.declared.unrolled.Point.{Point}
+use Rattle.question_form.specs.Views.{code_of}
+use Rattle.question_form.specs.FrameViews.{action_of, frame_unrolled_of, points_of, IsHeadless}
 use Rattle.question_form.proofs.FrameValues.{headless_values}
 use Rattle.mem_cells.specs.declared.cells.Agreement.{Agreement}
 use Rattle.mem_cells.specs.declared.cells.AskedByte.{AskedByte}
@@ -29,12 +36,29 @@ use Rattle.mem_cells.specs.declared.cells.CelledWords.{CelledWords}
 use Rattle.mem_cells.specs.Views.{agreement_of, asked_of, cells_of, AreCellsOf}
 use Rattle.mem_cells.specs.FrameViews.{frame_agreement_of, frame_asked_of, frame_cells_of, frame_of_cells, AreFrameCellsOf}
 use Rattle.mem_cells.specs.Words.{places_of, StandForEach, TellsWithWords, AreCellsWithWords}
+use Rattle.mem_cells.specs.Parts.{CountsGifts}
 use Rattle.mem_cells.specs.Tells.{ArePlacesOf, TellsWords, AreMadeOf}
-use Rattle.mem_cells.proofs.PartReads.{no_gift}
 use Rattle.mem_cells.proofs.Told.{contains_map}
 
-least : (n a l s m : ℕ) → n ≤ 2 * a → a ≤ m → m ≤ l → n ≤ l * (2 + s)
-least n a l s m h k e = let d : l * (2 + s) ≡ 2 * l + l * s = grind arith in omega (arith, h, k, e, d)
+least : (n a l s : ℕ) → n ≤ a * (2 + s) → a ≤ l → n ≤ l * (2 + s)
+least n a l s h k = let d : a * (2 + s) ≤ l * (2 + s) = mul-le-mul_right (2 + s) k in omega (arith, h, d)
+
+-- a point where a row is executed makes no contract step
+no_step : (u : Unrolled) (d : Deed) (list : _) (stack : List ℕ) (x : Gift) → d ≡ Row → action_of u d list stack ≡ StepsOver x → ⊥
+no_step u Row None stack x q e = absurd (cc)
+no_step u Row (Some list) stack x q e = absurd (cc)
+no_step u Arrival list stack x q e = absurd (cc)
+no_step u (deeds.Contract n) list stack x q e = absurd (cc)
+
+no_gift : (u : Unrolled) (ps : List Point) (i : ℕ) (x : Gift) → ((q : Point) → Contains ps q → q.deed ≡ Row) →
+    (slice_index_or (points_of u ps) i no_point).does ≡ StepsOver x → ⊥
+no_gift u [] i x h e = absurd (cc)
+no_gift u (q ∷ ps) zero x h e = no_step u q.deed (code_of u q).list (stack_at u.frames.items q.stack) x (h q (0, omega arith, refl)) e
+no_gift u (q ∷ ps) (suc i) x h e = no_gift u ps i x (λ p k. h p (suc k.0, omega (arith, k.1), k.2)) e
+
+-- so no gift has a memory
+pub headless_gifts : (v : Unrolled) → IsHeadless v → CountsGifts (frame_unrolled_of v)
+headless_gifts v h i g = absurd (no_gift v v.points.items i g.0 h.deeds g.2.does)
 
 -- cells that are made of terms within the room are those of the question
 pub frame_told : (q : Question) (words : List Term) (added : List ℕ) (c : CelledWords) →
@@ -56,8 +80,8 @@ frame_told q words added c w h =
         complete = h.tells.complete;
         gates = h.tells.gates (prices.loads_of u) (prices.stores_of u) (prices.edges_of u) within.loads within.stores within.joins;
         few = omega (arith, h.tells.few, within.loads);
-        few_reads = least (length (frame_cells_of c.celled).reads) (length (frame_cells_of c.celled).addresses) (prices.loads_of u) (prices.stores_of u) _
-            h.tells.few_reads h.tells.few within.loads;
+        few_reads = least (length (frame_cells_of c.celled).reads) (length (frame_cells_of c.celled).addresses) (prices.loads_of u) (prices.stores_of u)
+            h.tells.few_reads (omega (arith, h.tells.few, within.loads));
       };
     }
 
@@ -84,10 +108,10 @@ module _ (c : cells.Cells) where
   }
 
 -- terms of a program read the entry's memory alone
-one_part : (v : Unrolled) (heads : Bool) → heads ≡ false → (p : ℕ) → NamesMemory (frame_unrolled_of v) heads p → p ≡ 0
-one_part v heads e zero h = refl
-one_part v heads e (suc zero) h = absurd (let z : false ≡ true = sym e ∙ h in (cc))
-one_part v heads e (suc (suc i)) h = absurd (no_gift v v.points.items i h.0 h.2.does)
+one_part : (v : Unrolled) (heads : Bool) → IsHeadless v → heads ≡ false → (p : ℕ) → NamesMemory (frame_unrolled_of v) heads p → p ≡ 0
+one_part v heads k e zero h = refl
+one_part v heads k e (suc zero) h = absurd (let z : false ≡ true = sym e ∙ h in (cc))
+one_part v heads k e (suc (suc i)) h = absurd (no_gift v v.points.items i h.0 k.deeds h.2.does)
 
 agreements_flat : (ts : List Agreement) → ((a : Agreement) → Contains ts a → a.part ≡ 0) → map frame_agreement_of ts ≡ map as_agreement (map agreement_of ts)
 agreements_flat [] h = refl
@@ -105,7 +129,9 @@ asked_flat (x ∷ xs) h =
 pub made_flat : (q : Question) (words : List Term) (added : List ℕ) (c : CelledWords) → IsHeadless q.passive.now.unrolled.now → AreMadeOf q words added c →
     frame_cells_of c.celled ≡ as_cells (cells_of c.celled)
 made_flat q words added c k h =
-    let one = one_part c.celled.question.now.passive.now.unrolled.now (heads_of_question q) k.heads in
+    let v = c.celled.question.now.passive.now.unrolled.now in
+    let own : IsHeadless v = subst (λ (z : Question). IsHeadless z.passive.now.unrolled.now) (sym h.of) k in
+    let one = one_part v (heads_of_question q) own k.heads in
     let f = h.tells.formed in
     let all = frame_cells_of c.celled in
     let reads = h.tells.flat one in

@@ -1,6 +1,7 @@
 pub mod Agreements
 pub mod Asks
 pub mod Chains
+pub mod Marks
 pub mod FileBytes
 pub mod Gathered
 pub mod Growing
@@ -14,4 +15,5 @@ pub mod Puts
 pub mod Splits
 pub mod Steps
 pub mod StoredWords
+pub mod TakenBytes
 pub mod Told

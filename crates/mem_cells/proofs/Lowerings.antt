@@ -1,5 +1,5 @@
 -- Each kind of term as cells.
-use Rattle.std.proofs.Common.{◌≡◌, Bool, true, false, true≢false, ℕ, zero, suc, ◌+◌, ◌*◌, ◌^◌, ◌<◌, ◌≤◌, List, [], ◌∷◌, ◌++◌, length, take, refl, ap, sym, ◌∙◌, subst, arith}
+use Rattle.std.proofs.Common.{◌≡◌, Bool, ℕ, zero, suc, ◌+◌, ◌*◌, ◌^◌, ◌<◌, ◌≤◌, List, [], ◌∷◌, ◌++◌, length, take, refl, ap, sym, ◌∙◌, subst, arith}
 use Rattle.std.specs.Prelude.{sum_by, slice_index, nat_lt, if◌then◌else◌, Contains}
 use Rattle.std.specs.List.{AllByRecursion}
 use Rattle.std.proofs.lemmas.List.{get_or-take}
@@ -8,30 +8,30 @@ use Rattle.std.proofs.lemmas.List.Sums.{sum_by-append}
 use mathlib.Core.Path.{fun_ext}
 use Rattle.word_spec.specs.Words.{add, sub}
 use Rattle.word_spec.specs.Memory.{Memory, Endian, number, load, store, byte_of}
-use Rattle.term_spec.specs.Terms.{TermReading, InRange, TermNode, RegisterNode, FlagNode, ChoiceNode, BaseNode, MemoryNode, ConstantNode, BinaryNode, NotNode, SelectNode, ExtractNode, ConcatNode, ExtendNode, LoadNode, StoreNode, JoinNode, TakeNode, AreTyped, IsTypedOver, HasWidth, node_at, node_value, values_from, value_at, width_of, word_value, select, term_word, term_value, term_gates, term_loads, own_gates, own_loads}
+use Rattle.term_spec.specs.Terms.{TermReading, InRange, TermNode, RegisterNode, FlagNode, ChoiceNode, BaseNode, MemoryNode, ConstantNode, BinaryNode, NotNode, SelectNode, ExtractNode, ConcatNode, ExtendNode, LoadNode, StoreNode, JoinNode, TakeNode, AreTyped, IsTypedOver, HasWidth, node_at, node_value, values_from, value_at, width_of, word_value, select, is_taken_at, take_bytes, term_word, term_value, term_gates, term_loads, own_gates, own_loads}
 use Rattle.term_spec.specs.Cells.{IsOfWords}
 use Rattle.frame_spec.specs.FrameWalk.{UnrolledProgram}
-use Rattle.frame_terms.specs.PassiveFrames.{IsNamedBelow, AreNamedBelow}
+use Rattle.frame_terms.specs.PassiveFrames.{IsNamedBelow, AreNamedBelow, NamesMemory, TakesMemory}
 use Rattle.question_form.specs.declared.questions.Question.{Question}
 use Rattle.question_form.specs.FrameQuestions.{frame_of_question, heads_of_question}
 use Rattle.term_dag.specs.declared.nodes.Term.{Term}
 use Rattle.term_dag.specs.Made.{operands, moved}
 use Rattle.term_dag.proofs.ListLaws.{longer, unfolds, typed_before, typed_here, place_before}
-use Rattle.term_dag.proofs.Ranges.{word_only, result_is_width}
+use Rattle.term_dag.proofs.Ranges.{word_fits, word_only, result_is_width}
 use Rattle.term_dag.proofs.Copies.{moved_typed, moved_value, moved_width, moved_gates, moved_loads}
 use Rattle.mem_cells.specs.declared.building.Build.{Build}
 use Rattle.mem_cells.specs.declared.pieces.StoredByte.{StoredByte}
 use Rattle.mem_cells.specs.declared.pieces.Piece.{Piece}
-use Rattle.mem_cells.specs.declared.pieces.Piece.TheVariants.{Entry, Store, Join}
-use Rattle.mem_cells.specs.Pieces.{puts, link, stored_at, piece_gates, piece_at, IsStored, IsPiece}
+use Rattle.mem_cells.specs.declared.pieces.Piece.TheVariants.{Entry, Store, Take, Join}
+use Rattle.mem_cells.specs.Pieces.{puts, link, stored_at, piece_gates, IsStored, IsPiece}
 use Rattle.mem_cells.specs.Parts.{frame_of_build, heads_of_build, HasPart}
-use Rattle.mem_cells.specs.Building.{read_places, IsBuilt, Grown, GivesAll, IsWord, IsOfMemory, IsStore, IsOwnNode}
+use Rattle.mem_cells.specs.Building.{read_places, IsBuilt, Grown, GivesAll, IsWord, IsOfMemory, IsStore, IsTake, IsOwnNode}
 use Rattle.mem_cells.specs.Lowering.{source_of, Mean, Stands, AreLowered, IsNext, IsNextOf}
-use Rattle.mem_cells.proofs.Growing.{grown_none, named_more, named_moved}
+use Rattle.mem_cells.proofs.Growing.{grown_none, grown_word, named_more, named_moved}
 use Rattle.mem_cells.proofs.Chains.{pieces_kept}
 use Rattle.mem_cells.proofs.LoadedBytes.{memories_later}
-use Rattle.mem_cells.proofs.PartReads.{two_parts}
-use Rattle.mem_cells.proofs.PushedPieces.{piece_old, longer_same, longer_by, pieces_pushed, and_memory, other_memory, that_memory, memory_of, memories_pushed}
+use Rattle.mem_cells.proofs.TakenBytes.{among_is}
+use Rattle.mem_cells.proofs.PushedPieces.{longer_same, longer_by, pieces_pushed, and_memory, other_memory, that_memory, memory_of, memories_pushed}
 use Rattle.mem_cells.proofs.Steps.{word_stands, memory_stands, costs_next}
 
 -- the operands of a word that is no load are words
@@ -234,11 +234,13 @@ store_piece : (a b : Build) (stored : List StoredByte) (m at v n count : ℕ) (e
 store_piece a b stored m at v n count e (Entry part) l h = absurd h
 store_piece a b stored m at v n count e (Store q s f k) l h =
     (omega (arith, l, h.0), subst (λ (z : ℕ). IsStored b.dag stored s f z) (sym h.1) h.2.stored_bytes)
+store_piece a b stored m at v n count e (Take q t) l h = absurd h
 store_piece a b stored m at v n count e (Join c q r) l h = absurd h
 
 store_gates : (a b : Build) (stored : List StoredByte) (m at v n : ℕ) (e : Endian) (p : Piece) → IsStore a b stored m at v n e p → piece_gates p ≡ 40 * n
 store_gates a b stored m at v n e (Entry part) h = absurd h
 store_gates a b stored m at v n e (Store q s f k) h = ap (λ z. 40 * z) h.1
+store_gates a b stored m at v n e (Take q t) h = absurd h
 store_gates a b stored m at v n e (Join c q r) h = absurd h
 
 store_memory : (a b : Build) (stored : List StoredByte) (m at v n : ℕ) (e : Endian) (p : Piece) (x : TermReading) (f : ℕ → Memory) (i : ℕ) → InRange x →
@@ -249,6 +251,7 @@ store_memory a b stored m at v n e (Store q s g k) x f i r l h =
     ap (λ z. puts i (λ j. term_word x b.dag (stored_at stored (g + j)).address.0) (λ j. term_word x b.dag (stored_at stored (g + j)).value.0) z (f q i)) h.1
     ∙ ap (λ z. puts i (λ j. term_word x b.dag (stored_at stored (g + j)).address.0) (λ j. term_word x b.dag (stored_at stored (g + j)).value.0) n (f z i)) h.0
     ∙ h.2.bytes x r i l (f m)
+store_memory a b stored m at v n e (Take q t) x f i r l h = absurd h
 store_memory a b stored m at v n e (Join c q r') x f i r l h = absurd h
 
 store_same : (e : Endian) (n a b v w i : ℕ) (f g : Memory) → a ≡ b → v ≡ w → f i ≡ g i → store e n f a v i ≡ store e n g b w i
@@ -277,7 +280,7 @@ store_lowered ns d a b words more numbers others stored after rest pieces longes
           (subst (λ (z : List ℕ). Stands ns (d + 1) b (words ++ t ∷ []) z after longest) (sym en)
           (subst (λ (z : List Piece). Stands ns (d + 1) b (words ++ t ∷ []) (numbers ++ k ∷ []) after z) (sym ep)
           (memory_stands ns d a b (n * 64) 0 words numbers stored after pieces (pieces ++ piece ∷ []) t k g h.stands (sym (ap width_of x.is))
-          (pieces_pushed b stored after pieces piece y old is) (omega (arith, count)) (piece_old pieces piece) (omega (arith, count, ek))
+          (pieces_pushed b stored after pieces piece y old is) (omega (arith, count)) (omega (arith, count, ek))
           (λ z i w f c.
           let new = memory_of (term_word z b.dag) z.mem f after piece in (
             and_memory f (length pieces) new,
@@ -339,7 +342,7 @@ join_lowered ns d a words more numbers others stored pieces longest u heads c m 
           (subst (λ (z : List ℕ). Stands ns (d + 1) a (words ++ t ∷ []) z stored longest) (sym en)
           (subst (λ (z : List Piece). Stands ns (d + 1) a (words ++ t ∷ []) (numbers ++ k ∷ []) stored z) (sym ep)
           (memory_stands ns d a a 0 0 words numbers stored stored pieces (pieces ++ piece ∷ []) t k g h.stands (sym (ap width_of x.is))
-          (pieces_pushed a stored stored pieces piece y h.stands.pieces is) (omega (arith, count)) (piece_old pieces piece) (omega (arith, count, ek))
+          (pieces_pushed a stored stored pieces piece y h.stands.pieces is) (omega (arith, count)) (omega (arith, count, ek))
           (λ z i v f e.
           let new = memory_of (term_word z a.dag) z.mem f stored piece in (
             and_memory f (length pieces) new,
@@ -359,32 +362,131 @@ join_lowered ns d a words more numbers others stored pieces longest u heads c m 
           (omega (arith, ap (sum_by piece_gates) ep, sum_by-append piece_gates pieces (piece ∷ [])));
     }
 
--- the memory of a part
-pub entry_lowered : (ns : List TermNode) (d : ℕ) (a : Build) (words more : List Term) (numbers others : List ℕ) (stored : List StoredByte) (pieces : List Piece)
-    (u : UnrolledProgram) (heads : Bool) (part : ℕ) (t : Term) →
-    AreLowered ns d a words numbers stored pieces → IsNext u heads ns d (MemoryNode part) → HasPart a part → more ≡ words ++ t ∷ [] →
-    others ≡ numbers ++ part ∷ [] → AreLowered ns (d + 1) a more others stored pieces
-entry_lowered ns d a words more numbers others stored pieces u heads part t h x has ew en =
-    let first = h.stands.entries part has in
+-- the word that stands for a term has its width
+pub address_there : (ns : List TermNode) (d : ℕ) (b : Build) (words : List Term) (numbers : List ℕ) (stored : List StoredByte) (pieces : List Piece)
+    (w t at : ℕ) → AreLowered ns d b words numbers stored pieces →
+    (t < d) × (width_of (node_at ns t) ≡ w) → 1 ≤ w → at ≡ link words t → HasWidth b.dag w at
+address_there ns d b words numbers stored pieces w t at h p s e =
+    subst (HasWidth b.dag w) (sym e) (subst (λ (z : ℕ). HasWidth b.dag z (link words t)) p.1 (h.stands.widths t p.0 (omega (arith, s, p.1))))
+
+-- the operands of a take, as they stand
+pub record IsTakeOf (ns : List TermNode) (d : ℕ) (n m a : ℕ) : Type 0 where
+  pub some : 1 ≤ n
+  pub memory : (m < d) × (width_of (node_at ns m) ≡ 0)
+  pub address : (a < d) × (width_of (node_at ns a) ≡ 32)
+
+pub take_of : (ns : List TermNode) (d : ℕ) (u : UnrolledProgram) (heads : Bool) (n m a part : ℕ) → AreTyped ns →
+    IsNext u heads ns d (TakeNode n m a part) → IsTakeOf ns d n m a
+take_of ns d u heads n m a part h x =
+    let t = typed_before ns d (TakeNode n m a part) h x.within x.is in
+    record { some = t.0; memory = at_before ns d 0 m x.within t.1; address = at_before ns d 32 a x.within t.2 }
+
+-- what may be taken has a memory
+pub taken_part : (u : UnrolledProgram) (heads : Bool) (part : ℕ) → TakesMemory u part → NamesMemory u heads part
+taken_part u heads zero h = absurd h
+taken_part u heads (suc zero) h = absurd h
+taken_part u heads (suc (suc i)) h = h
+
+take_piece : (a b : Build) (stored : List StoredByte) (m at n part count : ℕ) (p : Piece) → m < count → IsTake a b m at n part p → IsPiece b stored count p
+take_piece a b stored m at n part count (Entry k) l h = absurd h
+take_piece a b stored m at n part count (Store q s f k) l h = absurd h
+take_piece a b stored m at n part count (Take q t) l h = (omega (arith, l, h.0), h.4)
+take_piece a b stored m at n part count (Join c q r) l h = absurd h
+
+take_gates : (a b : Build) (m at n part : ℕ) (p : Piece) → IsTake a b m at n part p → piece_gates p ≡ 40 * n
+take_gates a b m at n part (Entry k) h = absurd h
+take_gates a b m at n part (Store q s f k) h = absurd h
+take_gates a b m at n part (Take q t) h = ap (λ z. 40 * z) h.1
+take_gates a b m at n part (Join c q r) h = absurd h
+
+take_memory : (a b : Build) (g r : ℕ) (stored : List StoredByte) (m at n part : ℕ) (p : Piece) (x : TermReading) (f : ℕ → Memory) (i : ℕ) → Grown a b g r →
+    HasWidth a.dag 32 at → InRange x → i < 2 ^ 32 → IsTake a b m at n part p →
+    memory_of (term_word x b.dag) x.mem f stored p i ≡ take_bytes n (term_word x a.dag at) (f m) (x.mem part) i
+take_memory a b g r stored m at n part (Entry k) x f i o w v l h = absurd h
+take_memory a b g r stored m at n part (Store q s k c) x f i o w v l h = absurd h
+take_memory a b g r stored m at n part (Take q t) x f i o w v l h =
+    let first = term_word x b.dag t.first.0 in
+    let e : first ≡ term_word x a.dag at = ap (term_word x b.dag) h.2 ∙ grown_word a b g r x at o w.0 in
+    ap (λ z. if z then x.mem t.part i else f q i) (among_is t.bytes first i l (word_fits x b.dag 32 t.first.0 v o.built.typed h.4.first))
+    ∙ ap (λ z. if is_taken_at z first i then x.mem t.part i else f q i) h.1
+    ∙ ap (λ z. if is_taken_at n z i then x.mem t.part i else f q i) e
+    ∙ ap (λ z. if is_taken_at n (term_word x a.dag at) i then x.mem z i else f q i) h.3
+    ∙ ap (λ z. if is_taken_at n (term_word x a.dag at) i then x.mem part i else f z i) h.0
+take_memory a b g r stored m at n part (Join c q k) x f i o w v l h = absurd h
+
+take_same : (n a b i : ℕ) (f g from : Memory) → a ≡ b → f i ≡ g i → take_bytes n a f from i ≡ take_bytes n b g from i
+take_same n a b i f g from e h =
+    ap (λ z. if is_taken_at n z i then from i else f i) e ∙ ap (λ z. if is_taken_at n b i then from i else z) h
+
+-- one more take
+pub take_lowered : (ns : List TermNode) (d : ℕ) (a b : Build) (words more : List Term) (numbers others : List ℕ) (stored : List StoredByte)
+    (pieces longest : List Piece) (u : UnrolledProgram) (heads : Bool) (n m p part memory at k : ℕ) (piece : Piece) (t : Term) →
+    AreLowered ns d a words numbers stored pieces → IsNext u heads ns d (TakeNode n m p part) → memory ≡ slice_index numbers m → at ≡ link words p →
+    Grown a b 64 0 → IsTake a b memory at n part piece → k ≡ length pieces →
+    more ≡ words ++ t ∷ [] → others ≡ numbers ++ k ∷ [] → longest ≡ pieces ++ piece ∷ [] → AreLowered ns (d + 1) b more others stored longest
+take_lowered ns d a b words more numbers others stored pieces longest u heads n m p part memory at k piece t h x em ea g s ek ew en ep =
+    let o = take_of ns d u heads n m p part h.typed x in
+    let in_range : memory < length pieces = omega (arith, em, h.stands.within m o.memory.0 o.memory.1) in
+    let y = longer_same stored in
+    let is = take_piece a b stored memory at n part (length pieces) piece in_range s in
+    let old = pieces_kept a b 64 0 stored pieces g h.stands.pieces in
+    let w = address_there ns d a words numbers stored pieces 32 p at h o.address (omega arith) ea in
+    let count = longer pieces piece in
     record {
       typed = h.typed;
       few = omega (arith, x.within);
-      stands = subst (λ (z : List Term). Stands ns (d + 1) a z others stored pieces) (sym ew)
-          (subst (λ (z : List ℕ). Stands ns (d + 1) a (words ++ t ∷ []) z stored pieces) (sym en)
-          (memory_stands ns d a a 0 0 words numbers stored stored pieces pieces t part (grown_none a h.stands.built) h.stands
-          (sym (ap width_of x.is)) h.stands.pieces (omega arith) (λ q l. refl) first.0
-          (λ z i v f e. (
-            f,
-            e.are,
-            λ q j l. refl,
+      stands = subst (λ (z : List Term). Stands ns (d + 1) b z others stored longest) (sym ew)
+          (subst (λ (z : List ℕ). Stands ns (d + 1) b (words ++ t ∷ []) z stored longest) (sym en)
+          (subst (λ (z : List Piece). Stands ns (d + 1) b (words ++ t ∷ []) (numbers ++ k ∷ []) stored z) (sym ep)
+          (memory_stands ns d a b 64 0 words numbers stored stored pieces (pieces ++ piece ∷ []) t k g h.stands (sym (ap width_of x.is))
+          (pieces_pushed b stored stored pieces piece y old is) (omega (arith, count)) (omega (arith, count, ek))
+          (λ z i v f c.
+          let new = memory_of (term_word z b.dag) z.mem f stored piece in (
+            and_memory f (length pieces) new,
+            memories_pushed b (term_word z b.dag) z.mem stored stored pieces piece f y old is
+                (memories_later a b 64 0 z stored pieces f g h.stands.pieces c.are),
+            λ q j l. other_memory f (length pieces) new q j l,
             λ j l.
-                e.are j l part first.0
-                ∙ ap (λ q. memory_of (term_word z a.dag) z.mem f stored q j) first.1
-                ∙ ap (λ q. q.bytes j) (sym (of_node z ns d (MemoryNode part) h.typed x.within x.is)),
-          ))));
-      costs = costs_next ns d (MemoryNode part) (term_gates a.dag) (length (read_places a)) (sum_by piece_gates pieces) (term_gates a.dag) (length
-          (read_places a))
-          (sum_by piece_gates pieces) x.within x.is h.costs (omega arith) (omega arith) (omega arith);
+                that_memory f (length pieces) new k j ek
+                ∙ take_memory a b 64 0 stored memory at n part piece z f j g w i l s
+                ∙ take_same n (term_word z a.dag at) (term_word z ns p) j (f memory) (term_value z ns m).bytes (z.mem part)
+                (ap (term_word z a.dag) ea ∙ c.words p o.address.0 (omega (arith, o.address.1)))
+                (ap (λ q. f q j) em ∙ c.bytes m o.memory.0 o.memory.1 j l)
+                ∙ ap (λ q. q.bytes j) (sym (of_node z ns d (TakeNode n m p part) h.typed x.within x.is)),
+          )))));
+      costs = costs_next ns d (TakeNode n m p part) (term_gates a.dag) (length (read_places a)) (sum_by piece_gates pieces) (term_gates b.dag)
+          (length (read_places b)) (sum_by piece_gates longest) x.within x.is h.costs (omega (arith, g.gates, o.some)) (omega (arith, g.reads))
+          (omega (arith, ap (sum_by piece_gates) ep, sum_by-append piece_gates pieces (piece ∷ []), take_gates a b memory at n part piece s));
+    }
+
+-- the memory of a part
+pub entry_lowered : (ns : List TermNode) (d : ℕ) (a : Build) (words more : List Term) (numbers others : List ℕ) (stored : List StoredByte)
+    (pieces longest : List Piece) (u : UnrolledProgram) (heads : Bool) (part k : ℕ) (t : Term) →
+    AreLowered ns d a words numbers stored pieces → IsNext u heads ns d (MemoryNode part) → HasPart a part → k ≡ length pieces → more ≡ words ++ t ∷ [] →
+    others ≡ numbers ++ k ∷ [] → longest ≡ pieces ++ Entry part ∷ [] → AreLowered ns (d + 1) a more others stored longest
+entry_lowered ns d a words more numbers others stored pieces longest u heads part k t h x has ek ew en ep =
+    let piece : Piece = Entry part in
+    let y = longer_same stored in
+    let g = grown_none a h.stands.built in
+    let count = longer pieces piece in
+    record {
+      typed = h.typed;
+      few = omega (arith, x.within);
+      stands = subst (λ (z : List Term). Stands ns (d + 1) a z others stored longest) (sym ew)
+          (subst (λ (z : List ℕ). Stands ns (d + 1) a (words ++ t ∷ []) z stored longest) (sym en)
+          (subst (λ (z : List Piece). Stands ns (d + 1) a (words ++ t ∷ []) (numbers ++ k ∷ []) stored z) (sym ep)
+          (memory_stands ns d a a 0 0 words numbers stored stored pieces (pieces ++ piece ∷ []) t k g h.stands (sym (ap width_of x.is))
+          (pieces_pushed a stored stored pieces piece y h.stands.pieces has) (omega (arith, count)) (omega (arith, count, ek))
+          (λ z i v f e.
+          let new = memory_of (term_word z a.dag) z.mem f stored piece in (
+            and_memory f (length pieces) new,
+            memories_pushed a (term_word z a.dag) z.mem stored stored pieces piece f y h.stands.pieces has e.are,
+            λ q j l. other_memory f (length pieces) new q j l,
+            λ j l. that_memory f (length pieces) new k j ek ∙ ap (λ q. q.bytes j) (sym (of_node z ns d (MemoryNode part) h.typed x.within x.is)),
+          )))));
+      costs = costs_next ns d (MemoryNode part) (term_gates a.dag) (length (read_places a)) (sum_by piece_gates pieces) (term_gates a.dag)
+          (length (read_places a)) (sum_by piece_gates longest) x.within x.is h.costs (omega arith) (omega arith)
+          (omega (arith, ap (sum_by piece_gates) ep, sum_by-append piece_gates pieces (piece ∷ [])));
     }
 
 -- nothing is built yet
@@ -399,38 +501,8 @@ built_nothing a e f = record {
   read = λ j l. absurd (omega (arith, l, ap length f));
 }
 
--- the memories that the parts begin with
-abbrev pub starts : (heads : Bool) → List Piece
-starts heads = Entry 0 ∷ (if heads then Entry 1 ∷ [] else [])
-
-start_is : (a : Build) (heads : Bool) → heads_of_build a ≡ heads → (q : ℕ) → q < length (starts heads) → IsPiece a [] q (piece_at (starts heads) q)
-start_is a true e zero l = tt
-start_is a true e (suc zero) l = e
-start_is a true e (suc (suc q)) l = absurd (omega (arith, l))
-start_is a false e zero l = tt
-start_is a false e (suc q) l = absurd (omega (arith, l))
-
-start_has : (w : ℕ → ℕ) (m : ℕ → Memory) (heads : Bool) (i q : ℕ) → q < length (starts heads) → m q i ≡ memory_of w m m [] (piece_at (starts heads) q) i
-start_has w m true i zero l = refl
-start_has w m true i (suc zero) l = refl
-start_has w m true i (suc (suc q)) l = absurd (omega (arith, l))
-start_has w m false i zero l = refl
-start_has w m false i (suc q) l = absurd (omega (arith, l))
-
-starts_with : (a : Build) (heads : Bool) → heads_of_build a ≡ heads → (p : ℕ) → p < 2 → HasPart a p →
-    (p < length (starts heads)) × (piece_at (starts heads) p ≡ Entry p)
-starts_with a true e zero l h = (omega arith, refl)
-starts_with a true e (suc zero) l h = (omega arith, refl)
-starts_with a false e zero l h = (omega arith, refl)
-starts_with a false e (suc zero) l h = absurd (true≢false (sym h ∙ e))
-starts_with a heads e (suc (suc p)) l h = absurd (omega (arith, l))
-
-starts_free : (heads : Bool) → sum_by piece_gates (starts heads) ≡ 0
-starts_free true = refl
-starts_free false = refl
-
 -- no term is lowered yet
-none_lowered : (ns : List TermNode) (a : Build) → AreTyped ns → a.dag ≡ [] → read_places a ≡ [] → AreLowered ns 0 a [] [] [] (starts (heads_of_build a))
+none_lowered : (ns : List TermNode) (a : Build) → AreTyped ns → a.dag ≡ [] → read_places a ≡ [] → AreLowered ns 0 a [] [] [] []
 none_lowered ns a h e f = record {
   typed = h;
   few = omega arith;
@@ -438,25 +510,24 @@ none_lowered ns a h e f = record {
     built = built_nothing a e f;
     word_count = refl;
     number_count = refl;
-    entries = λ p q. starts_with a (heads_of_build a) refl p (two_parts a p q) q;
-    pieces = start_is a (heads_of_build a) refl;
+    pieces = λ q l. absurd (omega (arith, l));
     widths = λ t l k. absurd (omega (arith, l));
     within = λ t l k. absurd (omega (arith, l));
     means = λ x i v. (
       x.mem,
       record {
-        are = λ i l q b. start_has (term_word x a.dag) x.mem (heads_of_build a) i q b;
+        are = λ i l q b. absurd (omega (arith, b));
         words = λ t l k. absurd (omega (arith, l));
         bytes = λ t l k i b. absurd (omega (arith, l));
       },
     );
   };
-  costs = record { gates = omega (arith, ap term_gates e); reads = omega (arith, ap length f); below = omega (arith, starts_free (heads_of_build a)) };
+  costs = record { gates = omega (arith, ap term_gates e); reads = omega (arith, ap length f); below = omega arith };
 }
 
 pub start_lowered : (ns : List TermNode) (a : Build) (words : List Term) (numbers : List ℕ) (stored : List StoredByte) (pieces : List Piece) → AreTyped ns →
     a.dag ≡ [] → read_places a ≡ [] → words ≡ [] → numbers ≡ [] →
-    stored ≡ [] → pieces ≡ starts (heads_of_build a) → AreLowered ns 0 a words numbers stored pieces
+    stored ≡ [] → pieces ≡ [] → AreLowered ns 0 a words numbers stored pieces
 start_lowered ns a words numbers stored pieces h e f ew en es ep =
     subst (λ (z : List Term). AreLowered ns 0 a z numbers stored pieces) (sym ew)
     (subst (λ (z : List ℕ). AreLowered ns 0 a [] z stored pieces) (sym en)
@@ -493,10 +564,3 @@ pub root_means : (ns : List TermNode) (b : Build) (words : List Term) (numbers :
     AreLowered ns (length ns) b words numbers stored pieces → 1 ≤ w →
     HasWidth ns w r → (x : TermReading) → InRange x → GivesAll b x → term_word x b.dag (link words r) ≡ term_word x ns r
 root_means ns b words numbers stored pieces w r h l k x i v = (h.stands.means x i v).1.words r k.0 (omega (arith, l, k.1))
-
--- the word that stands for a term has its width
-pub address_there : (ns : List TermNode) (d : ℕ) (b : Build) (words : List Term) (numbers : List ℕ) (stored : List StoredByte) (pieces : List Piece)
-    (w t at : ℕ) → AreLowered ns d b words numbers stored pieces →
-    (t < d) × (width_of (node_at ns t) ≡ w) → 1 ≤ w → at ≡ link words t → HasWidth b.dag w at
-address_there ns d b words numbers stored pieces w t at h p s e =
-    subst (HasWidth b.dag w) (sym e) (subst (λ (z : ℕ). HasWidth b.dag z (link words t)) p.1 (h.stands.widths t p.0 (omega (arith, s, p.1))))

@@ -11,11 +11,10 @@ use Rattle.mem_cells.specs.declared.building.Build.{Build}
 use Rattle.mem_cells.specs.declared.cells.Agreement.{Agreement}
 use Rattle.mem_cells.specs.declared.cells.AskedByte.{AskedByte}
 use Rattle.mem_cells.specs.declared.file_bytes.FileByte.{FileByte}
-use Rattle.mem_cells.specs.declared.parts.Parts.{Parts}
 use Rattle.mem_cells.specs.declared.pieces.StoredByte.{StoredByte}
 use Rattle.mem_cells.specs.declared.pieces.Piece.{Piece}
 use Rattle.mem_cells.specs.Pieces.{link}
-use Rattle.mem_cells.specs.Parts.{AreParts, KeepsParts}
+use Rattle.mem_cells.specs.Parts.{AreParts, CountsGifts, KeepsParts}
 use Rattle.mem_cells.specs.Building.{read_places, Grown}
 use Rattle.mem_cells.specs.Ties.{AreTies, Before}
 use Rattle.mem_cells.specs.Asked.{AreFileBytes, AreAsked, AskedOf}
@@ -29,10 +28,10 @@ all_within n i j (k, inl h) = (omega (arith, k, h), h)
 all_within n i j (k, inr h) = absurd (omega (arith, h.1))
 
 pub made_of : (q : Question) (t : QuestionTerm) (of_head : Bool) (asks : ℕ →
-    Bool) (mid tied b : Build) (words : List Term) (numbers : List ℕ) (stored : List StoredByte) (pieces : List Piece) (parts : List Parts)
+    Bool) (mid tied b : Build) (words : List Term) (numbers : List ℕ) (stored : List StoredByte) (pieces : List Piece) (parts : List (List ℕ))
     (ts : List Agreement)
     (xs : List AskedByte) (file : List FileByte) (root : Term) → HasWidth t.nodes 1 t.root →
-    ((a c : ℕ) → byte_of_runs (frame_of_question q).known a ≡ Some c → c < 256) →
+    ((a c : ℕ) → byte_of_runs (frame_of_question q).known a ≡ Some c → c < 256) → CountsGifts (frame_of_question q) →
     mid.question.now ≡ q → source_of mid ≡ t.nodes → AreLowered (source_of mid) (length t.nodes) mid words numbers stored pieces →
     length parts ≡ length (read_places mid) → AreParts mid parts →
     Grown mid tied (16 * (length (read_places mid) * (length (read_places mid) - 1))) 0 → KeepsParts mid tied →
@@ -41,13 +40,14 @@ pub made_of : (q : Question) (t : QuestionTerm) (of_head : Bool) (asks : ℕ →
     Grown tied b (32 * (length (read_places tied) * length file)) 0 → KeepsParts tied b →
     AreAsked b parts file xs (AskedOf (length (read_places b)) file) → root.0 ≡ link words t.root →
     IsMadeOf q t of_head asks mid b words numbers stored pieces parts ts xs file root
-made_of q t of_head asks mid tied b words numbers stored pieces parts ts xs file root width bytes eq es lowered count are g keeps agree given few k keeps_on
+made_of q t of_head asks mid tied b words numbers stored pieces parts ts xs file root width bytes gifts eq es lowered count are g keeps agree given few k keeps_on
     says is =
     let r = same_reads mid tied (16 * (length (read_places mid) * (length (read_places mid) - 1))) g in
     let s = same_reads tied b (32 * (length (read_places tied) * length file)) k in
     record {
       width = width;
       bytes = bytes;
+      gifts = gifts;
       question = ap (λ z. z.now) (k.question ∙ g.question) ∙ eq;
       lowered = subst (λ (z : List TermNode). AreLowered z (length t.nodes) mid words numbers stored pieces) es lowered;
       count = count;

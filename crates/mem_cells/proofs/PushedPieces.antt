@@ -12,8 +12,8 @@ use Rattle.mem_cells.specs.declared.building.Build.{Build}
 use Rattle.mem_cells.specs.declared.pieces.Split.{Split}
 use Rattle.mem_cells.specs.declared.pieces.StoredByte.{StoredByte}
 use Rattle.mem_cells.specs.declared.pieces.Piece.{Piece}
-use Rattle.mem_cells.specs.declared.pieces.Piece.TheVariants.{Entry, Store, Join}
-use Rattle.mem_cells.specs.Pieces.{puts, piece_byte, piece_at, stored_at, IsStored, IsPiece, ArePieces, IsRising}
+use Rattle.mem_cells.specs.declared.pieces.Piece.TheVariants.{Entry, Store, Take, Join}
+use Rattle.mem_cells.specs.Pieces.{puts, piece_byte, piece_at, stored_at, taken_over, IsStored, IsPiece, ArePieces, IsRising}
 use Rattle.mem_cells.specs.Building.{AreMemories}
 use Rattle.mem_cells.proofs.Chains.{piece_rises}
 use Rattle.mem_cells.proofs.Puts.{puts_same}
@@ -38,6 +38,7 @@ below_same : (w : ℕ → ℕ) (m : ℕ → Memory) (stored : List StoredByte) (
 below_same w m stored q (Entry part) f g i h e = refl
 below_same w m stored q (Store p s k n) f g i h e = ap (puts i (λ j. w (stored_at stored (k + j)).address.0)
     (λ j. w (stored_at stored (k + j)).value.0) n) (e p h)
+below_same w m stored q (Take p t) f g i h e = ap (λ z. taken_over w m t z i) (e p h)
 below_same w m stored q (Join c a b) f g i h e = ap (λ z. select (w c.0) z (f b)) (e a h.0) ∙ ap (select (w c.0) (g a)) (e b h.1)
 
 -- and on bytes that are stored already
@@ -49,6 +50,7 @@ stored_same build w m f stored others q (Store p s k n) i l h =
     puts_same i _ _ _ _ n (f p)
     (λ j b. ap (λ z. w z.address.0) (l.same (k + j) (omega (arith, h.1.are.within, b))))
     (λ j b. ap (λ z. w z.value.0) (l.same (k + j) (omega (arith, h.1.are.within, b))))
+stored_same build w m f stored others q (Take p t) i l h = refl
 stored_same build w m f stored others q (Join c a b) i l h = refl
 
 bytes_longer : (nodes : List TermNode) (stored others : List StoredByte) (s : Split) (f n : ℕ) → IsLonger stored others → IsStored nodes stored s f n →
@@ -71,6 +73,7 @@ piece_longer : (build : Build) (stored others : List StoredByte) (q : ℕ) (z : 
     IsPiece build others q z
 piece_longer build stored others q (Entry part) e h = h
 piece_longer build stored others q (Store m s f n) e h = (h.0, bytes_longer build.dag stored others s f n e h.1)
+piece_longer build stored others q (Take m t) e h = h
 piece_longer build stored others q (Join c a b) e h = h
 
 pub piece_old : (pieces : List Piece) (p : Piece) (q : ℕ) → q < length pieces → piece_at (pieces ++ p ∷ []) q ≡ piece_at pieces q

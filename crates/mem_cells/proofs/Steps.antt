@@ -11,10 +11,10 @@ use Rattle.term_dag.proofs.ListLaws.{longer}
 use Rattle.mem_cells.specs.declared.building.Build.{Build}
 use Rattle.mem_cells.specs.declared.pieces.StoredByte.{StoredByte}
 use Rattle.mem_cells.specs.declared.pieces.Piece.{Piece}
-use Rattle.mem_cells.specs.Pieces.{link, piece_at, ArePieces}
+use Rattle.mem_cells.specs.Pieces.{link, ArePieces}
 use Rattle.mem_cells.specs.Building.{Grown, GivesAll, AreMemories}
 use Rattle.mem_cells.specs.Lowering.{Mean, Stands, Costs}
-use Rattle.mem_cells.proofs.Growing.{grown_word, grown_width, gives_before, part_kept, pushed_at, pushed_last}
+use Rattle.mem_cells.proofs.Growing.{grown_word, grown_width, gives_before, pushed_at, pushed_last}
 use Rattle.mem_cells.proofs.Chains.{linked, linked_last, pieces_kept}
 use Rattle.mem_cells.proofs.LoadedBytes.{memories_later}
 
@@ -62,7 +62,6 @@ word_stands ns d a b g r words numbers stored pieces w k p s some h f = record {
   built = p.built;
   word_count = longer words w ∙ ap (λ z. z + 1) s.word_count;
   number_count = longer numbers k ∙ ap (λ z. z + 1) s.number_count;
-  entries = λ part q. s.entries part (part_kept b a part (sym p.question) q);
   pieces = pieces_kept a b g r stored pieces p s.pieces;
   widths = more_widths ns d a b g r words numbers stored pieces w p s (λ y. h);
   within = more_numbers ns d a words numbers stored pieces k (length pieces) s (omega arith) (λ z. absurd (omega (arith, z, some)));
@@ -90,16 +89,15 @@ word_stands ns d a b g r words numbers stored pieces w k p s some h f = record {
 pub memory_stands : (ns : List TermNode) (d : ℕ) (a b : Build) (g r : ℕ) (words : List Term) (numbers : List ℕ) (stored others : List StoredByte)
     (pieces more : List Piece) (w : Term) (k : ℕ) → Grown a b g r →
     Stands ns d a words numbers stored pieces → width_of (node_at ns d) ≡ 0 → ArePieces b others more → length pieces ≤ length more →
-    ((q : ℕ) → q < length pieces → piece_at more q ≡ piece_at pieces q) → k < length more →
+    k < length more →
     ((x : TermReading) → InRange x → GivesAll b x → (m : ℕ → Memory) → Mean x ns d (term_word x a.dag) words numbers stored pieces m →
     (n : ℕ → Memory) × AreMemories (term_word x b.dag) x.mem others more n × ((q i : ℕ) → q < length pieces → n q i ≡ m q i) ×
     ((i : ℕ) → i < 2 ^ 32 → n k i ≡ (term_value x ns d).bytes i)) →
     Stands ns (d + 1) b (words ++ w ∷ []) (numbers ++ k ∷ []) others more
-memory_stands ns d a b g r words numbers stored others pieces more w k p s none are few same within f = record {
+memory_stands ns d a b g r words numbers stored others pieces more w k p s none are few within f = record {
   built = p.built;
   word_count = longer words w ∙ ap (λ z. z + 1) s.word_count;
   number_count = longer numbers k ∙ ap (λ z. z + 1) s.number_count;
-  entries = λ part q. let e = s.entries part (part_kept b a part (sym p.question) q) in (omega (arith, e.0, few), same part e.0 ∙ e.1);
   pieces = are;
   widths = more_widths ns d a b g r words numbers stored pieces w p s (λ y. absurd (omega (arith, none, y)));
   within = more_numbers ns d a words numbers stored pieces k (length more) s few (λ z. within);

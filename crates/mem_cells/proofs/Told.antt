@@ -1,5 +1,5 @@
 -- Cells tell the term that they are made of, and its words.
-use Rattle.std.proofs.Common.{◌≡◌, inl, ℕ, zero, suc, ◌+◌, ◌-◌, ◌*◌, ◌^◌, ◌<◌, ◌≤◌, Bool, true, false, List, [], ◌∷◌, Some, length, map, refl, ap, sym, ◌∙◌, subst, arith}
+use Rattle.std.proofs.Common.{◌≡◌, inl, inr, ℕ, zero, suc, ◌+◌, ◌-◌, ◌*◌, ◌^◌, ◌<◌, ◌≤◌, Bool, true, false, List, [], ◌∷◌, Some, length, map, refl, ap, sym, ◌∙◌, subst, arith}
 use Rattle.std.specs.Prelude.{◌&&◌, slice_index, slice_get, Contains}
 use Rattle.std.proofs.Math.Nat.{mul-le-mul_left, mul-le-mul_right}
 use Rattle.std.proofs.lemmas.List.{take_all, get_or_default}
@@ -11,7 +11,7 @@ use Rattle.walk_spec.specs.Unrolled.{byte_of_runs, is_in}
 use Rattle.term_spec.specs.WalkQuestions.{QuestionTerm}
 use Rattle.term_spec.specs.Cells.{IsOfWords, cell_gates}
 use Rattle.frame_spec.specs.FrameWalk.{UnrolledProgram}
-use Rattle.frame_laws.specs.FramePrices.{known_of}
+use Rattle.frame_laws.specs.FramePrices.{known_of, stores_of}
 use Rattle.frame_terms.specs.PassiveFrames.{NamesMemory}
 use Rattle.frame_terms.specs.FrameCells as frames
 use Rattle.frame_terms.specs.FrameCells.{Gives, IsRead, IsAllowed, AreFormed, HaveAsked, Completes}
@@ -26,12 +26,11 @@ use Rattle.mem_cells.specs.declared.cells.Agreement.{Agreement}
 use Rattle.mem_cells.specs.declared.cells.AskedByte.{AskedByte}
 use Rattle.mem_cells.specs.declared.cells.BaseRead.{BaseRead}
 use Rattle.mem_cells.specs.declared.file_bytes.FileByte.{FileByte}
-use Rattle.mem_cells.specs.declared.parts.Parts.{Parts}
 use Rattle.mem_cells.specs.declared.pieces.StoredByte.{StoredByte}
 use Rattle.mem_cells.specs.declared.pieces.Piece.{Piece}
 use Rattle.mem_cells.specs.Pieces.{link}
 use Rattle.mem_cells.specs.Building.{read_places, Cellular, GivesAll, Grown}
-use Rattle.mem_cells.specs.Parts.{is_read, read_at, reads_from, AreParts, KeepsParts}
+use Rattle.mem_cells.specs.Parts.{is_read, parts_at, read_at, reads_from, AreParts, CountsGifts, KeepsParts}
 use Rattle.mem_cells.specs.Ties.{address_of, AreTies, Before}
 use Rattle.mem_cells.specs.Asked.{file_byte, is_of_part, AreFileBytes, AreAsked, AskedOf}
 use Rattle.mem_cells.specs.Lowering.{AreLowered}
@@ -39,7 +38,7 @@ use Rattle.mem_cells.specs.FrameViews.{read_of, frame_agreement_of, frame_asked_
 use Rattle.mem_cells.specs.Words.{places_of, IsWordAt}
 use Rattle.mem_cells.specs.Tells.{IsPlaceOf, ArePlacesOf, TellsWords}
 use Rattle.mem_cells.proofs.Growing.{grown_word, grown_width, gives_before, node_kept}
-use Rattle.mem_cells.proofs.PartReads.{reads_have, reads_are, reads_climb, reads_few, reads_flat, read_within}
+use Rattle.mem_cells.proofs.PartReads.{few_parts, reads_have, reads_are, reads_climb, reads_few, reads_flat}
 use Rattle.mem_cells.proofs.Agreements.{and_true, both_true, same_reads}
 use Rattle.mem_cells.proofs.Gathered.{part_memory, term_free}
 use Rattle.mem_cells.proofs.Lowerings.{root_stands, root_means}
@@ -168,11 +167,12 @@ has_byte u of_head asks x (suc (suc p)) f h o e k r l = absurd (cc)
 
 -- What was made: all terms are lowered, reads agree, and bytes of the file are asked.
 pub record IsMadeOf (q : Question) (t : QuestionTerm) (of_head : Bool) (asks : ℕ →
-    Bool) (mid b : Build) (words : List Term) (numbers : List ℕ) (stored : List StoredByte) (pieces : List Piece) (parts : List Parts) (ts : List Agreement)
+    Bool) (mid b : Build) (words : List Term) (numbers : List ℕ) (stored : List StoredByte) (pieces : List Piece) (parts : List (List ℕ)) (ts : List Agreement)
     (xs : List AskedByte) (file : List FileByte) (root : Term) : Type 0 where
   pub width : HasWidth t.nodes 1 t.root
   pub bytes : (a c : ℕ) → byte_of_runs (frame_of_question q).known a ≡ Some c → c < 256
   pub question : b.question.now ≡ q
+  pub gifts : CountsGifts (frame_of_question q)
   pub lowered : AreLowered t.nodes (length t.nodes) mid words numbers stored pieces
   pub count : length parts ≡ length (read_places mid)
   pub noted : AreParts mid parts
@@ -185,7 +185,7 @@ pub record IsMadeOf (q : Question) (t : QuestionTerm) (of_head : Bool) (asks : �
   pub is : root.0 ≡ link words t.root
 
 module _ (q : Question) (t : QuestionTerm) (of_head : Bool) (asks : ℕ →
-    Bool) (mid b : Build) (words : List Term) (numbers : List ℕ) (stored : List StoredByte) (pieces : List Piece) (parts : List Parts) (ts : List Agreement)
+    Bool) (mid b : Build) (words : List Term) (numbers : List ℕ) (stored : List StoredByte) (pieces : List Piece) (parts : List (List ℕ)) (ts : List Agreement)
     (xs : List AskedByte) (file : List FileByte) (root : Term) (h : IsMadeOf q t of_head asks mid b words numbers stored pieces parts ts xs file root) where
   abbrev cost : ℕ
   cost = 16 * (length (read_places mid) * (length (read_places mid) - 1)) + 32 * (length (read_places mid) * length file)
@@ -229,16 +229,19 @@ module _ (q : Question) (t : QuestionTerm) (of_head : Bool) (asks : ℕ →
   rise i j x y l d e =
       let v = map_get read_of (reads_from 0 parts) i x d in
       let w = map_get read_of (reads_from 0 parts) j y e in
-      let k = reads_climb parts i j v.0 w.0 l v.1 w.1 in
-      let s = (read_within parts w.0.part w.0.address (reads_are parts w.0 (in_get (reads_from 0 parts) j w.0 w.1))).0 in
-      omega (arith, k, s, ap (λ z. z.address) v.2, ap (λ z. z.address) w.2)
+      elim (reads_climb parts i j v.0 w.0 h.noted.rise l v.1 w.1) [
+        | inl k ↦ omega (arith, k, ap (λ z. z.address) v.2, ap (λ z. z.address) w.2)
+        | inr k ↦ omega (arith, k.0, ap (λ z. z.address) v.2, ap (λ z. z.address) w.2)
+      ]
 
   once : (i j : ℕ) (x : frames.BaseRead) → i < j → slice_get made.reads i ≡ Some x → slice_get made.reads j ≡ Some x → ⊥
   once i j x l d e =
       let v = map_get read_of (reads_from 0 parts) i x d in
       let w = map_get read_of (reads_from 0 parts) j x e in
-      let k = reads_climb parts i j v.0 w.0 l v.1 w.1 in
-      omega (arith, k, ap (λ z. z.address) (v.2 ∙ sym w.2), ap (λ z. z.part) (v.2 ∙ sym w.2))
+      elim (reads_climb parts i j v.0 w.0 h.noted.rise l v.1 w.1) [
+        | inl k ↦ absurd (omega (arith, k, ap (λ z. z.address) (v.2 ∙ sym w.2)))
+        | inr k ↦ absurd (omega (arith, k.1, ap (λ z. z.part) (v.2 ∙ sym w.2)))
+      ]
 
   formed : AreFormed u heads made
   formed = record {
@@ -341,15 +344,22 @@ module _ (q : Question) (t : QuestionTerm) (of_head : Bool) (asks : ℕ →
   stand_each (w ∷ ws) k =
       (stands w.0 (k w (0, omega arith, refl)), stand_each ws (λ v c. k v (suc c.0, omega (arith, c.1), c.2)))
 
+  -- how many reads there are
+  few_reads : length made.reads ≤ length made.addresses * (2 + stores_of u)
+  few_reads =
+      let n = 2 + stores_of u in
+      let m = reads_few 0 n parts (λ i l. few_parts u heads (parts_at parts i) h.gifts (h.noted.rise i) (λ p r. (named_read p i r).0)) in
+      subst (λ (z : ℕ). length made.reads ≤ z * n) same_count (omega (arith, map_length read_of (reads_from 0 parts), m))
+
   -- where the entry's memory alone may be read
   flat : ((p : ℕ) → NamesMemory u heads p → p ≡ 0) → made.reads ≡ map as_read (from_to 0 (length made.addresses))
   flat one =
-      reads_flat 0 parts
+      reads_flat 0 parts h.noted.rise
       (λ i l.
       let r = cells.read i (omega (arith, l, same_count)) in
       let e : r.0 ≡ 0 = one r.0 (cells.named (BaseNode r.0 i) r.1).0 in
       ap (λ z. is_read parts z i) (sym e) ∙ h.noted.complete r.0 i (h.kept r.0 i r.1))
-      (λ i r. omega (arith, one 1 (named_read 1 i r).0))
+      (λ i p r. one p (named_read p i r).0)
       ∙ ap (λ n. map as_read (from_to 0 n)) same_count
 
   pub told_words : (asked_words places : List Term) (rs : List BaseRead) → ((w : Term) → Contains asked_words w → IsWordAt t.nodes w.0) →
@@ -372,6 +382,6 @@ module _ (q : Question) (t : QuestionTerm) (of_head : Bool) (asks : ℕ →
               l s j (omega (arith, c.1, l)) h.few,
         );
         few = omega (arith, h.grown.reads, c.1);
-        few_reads = omega (arith, map_length read_of (reads_from 0 parts), reads_few 0 parts, same_count);
+        few_reads = few_reads;
         flat = flat;
       })

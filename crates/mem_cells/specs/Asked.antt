@@ -1,5 +1,5 @@
 -- Which bytes of the file the base reads have, as far as it is said.
-use Rattle.std.specs.Prelude.{ℕ, zero, suc, ◌≡◌, ◌<◌, ◌+◌, ◌-◌, ◌⊎◌, ◌&&◌, Bool, true, false, nat_le, nat_lt, if◌then◌else◌, List, [], ◌∷◌, ◌++◌, Option, Some, None, length, map, slice_index, slice_index_or, Contains}
+use Rattle.std.specs.Prelude.{ℕ, zero, suc, ◌≡◌, ◌<◌, ◌+◌, ◌-◌, ◌⊎◌, ◌&&◌, Bool, true, false, nat_le, nat_lt, if◌then◌else◌, List, [], ◌∷◌, ◌++◌, Option, Some, None, length, filter, map, slice_index, slice_index_or, Contains}
 use Rattle.term_spec.specs.Terms.{TermReading, InRange, HasWidth, term_word}
 use Rattle.walk_spec.specs.Unrolled.{ByteRun, byte_of_runs, is_in}
 use Rattle.term_dag.specs.declared.nodes.Term.{Term}
@@ -7,9 +7,8 @@ use Rattle.question_form.specs.Views.{kept_of}
 use Rattle.mem_cells.specs.declared.building.Build.{Build}
 use Rattle.mem_cells.specs.declared.cells.AskedByte.{AskedByte}
 use Rattle.mem_cells.specs.declared.file_bytes.FileByte.{FileByte}
-use Rattle.mem_cells.specs.declared.parts.Parts.{Parts}
 use Rattle.mem_cells.specs.Building.{read_places}
-use Rattle.mem_cells.specs.Parts.{is_read, one_if}
+use Rattle.mem_cells.specs.Parts.{is_read}
 use Rattle.mem_cells.specs.Ties.{address_of}
 
 -- the byte that a run has at an address
@@ -45,16 +44,16 @@ is_of_part f (suc zero) = f.head
 is_of_part f (suc (suc p)) = false
 
 -- of these parts' memories a byte is asked
-abbrev pub parts_asked : Parts → FileByte → Parts
-parts_asked r f = record { entry = r.entry; head = r.head && f.head }
+abbrev pub parts_asked : List ℕ → FileByte → List ℕ
+parts_asked r f = filter (is_of_part f) r
 
 -- what is asked of a read
 abbrev pub asked : Term → (part read byte : ℕ) → AskedByte
 asked t p j b = record { condition = t; part = p; read = j; byte = b }
 
 -- what is asked of the reads of parts at the address of a number
-abbrev pub asked_of_parts : Parts → Term → (read byte : ℕ) → List AskedByte
-asked_of_parts r t j b = one_if r.entry (asked t 0 j b) ++ one_if r.head (asked t 1 j b)
+abbrev pub asked_of_parts : List ℕ → Term → (read byte : ℕ) → List AskedByte
+asked_of_parts r t j b = map (λ p. asked t p j b) r
 
 -- the reads have bytes where it is said
 abbrev pub HaveBytes : Build → TermReading → List AskedByte → (base : (part : ℕ) → ℕ → ℕ) → Type 0
@@ -68,7 +67,7 @@ pub record IsByteFor (bytes : List FileByte) (part byte : ℕ) (f : FileByte) : 
 
 -- What is said of reads and bytes of the file: it is over these; where it says that a read is at the address of a byte, it is; and it says so of each pair of
 -- some, for each part that is read there and has the byte.
-pub record AreAsked (b : Build) (parts : List Parts) (bytes : List FileByte) (xs : List AskedByte) (pairs : ℕ → FileByte → Type 0) : Type 0 where
+pub record AreAsked (b : Build) (parts : List (List ℕ)) (bytes : List FileByte) (xs : List AskedByte) (pairs : ℕ → FileByte → Type 0) : Type 0 where
   pub formed : (a : AskedByte) → Contains xs a → HasWidth b.dag 1 a.condition.0 × (a.read < length (read_places b)) ×
       ((f : FileByte) × IsByteFor bytes a.part a.byte f)
   pub read : (a : AskedByte) → Contains xs a → is_read parts a.part a.read ≡ true

@@ -1,5 +1,5 @@
 -- Cells as they are built: nodes over words with base reads, which grow.
-use Rattle.std.specs.Prelude.{ℕ, ◌≡◌, ◌≤◌, ◌<◌, ◌+◌, ◌*◌, ◌^◌, Bool, true, List, ◌++◌, length, map, slice_index, Contains}
+use Rattle.std.specs.Prelude.{ℕ, ◌≡◌, ◌≤◌, ◌<◌, ◌+◌, ◌*◌, ◌^◌, Bool, true, List, ◌++◌, Some, length, map, slice_index, Contains}
 use Rattle.term_spec.specs.Terms.{TermReading, InRange, TermNode, BaseNode, AreTyped, HasWidth, IsTypedOver, width_of, node_at, term_word, term_gates, term_loads, own_loads}
 use Rattle.frame_spec.specs.FrameWalk.{UnrolledProgram}
 use Rattle.frame_terms.specs.PassiveFrames.{IsNamedBelow, AreNamedBelow}
@@ -10,9 +10,9 @@ use Rattle.mem_cells.specs.declared.pieces.Piece.{Piece}
 use Rattle.word_spec.specs.Memory.{Memory, Endian, Little, Big, byte_of, store}
 use Rattle.word_spec.specs.Words.{add}
 use Rattle.mem_cells.specs.declared.pieces.Split.{Split}
-use Rattle.mem_cells.specs.declared.pieces.Piece.TheVariants.{Entry, Store, Join}
+use Rattle.mem_cells.specs.declared.pieces.Piece.TheVariants.{Entry, Store, Take, Join}
 use Rattle.mem_cells.specs.Parts.{frame_of_build, heads_of_build}
-use Rattle.mem_cells.specs.Pieces.{bool_at, piece_at, piece_byte, puts, stored_at, IsStored}
+use Rattle.mem_cells.specs.Pieces.{bool_at, part_read, piece_at, piece_byte, puts, stored_at, IsStored, IsTaken}
 
 -- Nodes over words without loads, that name the frame's inputs and the base reads; each address is a word over reads of addresses before it, and is read.
 pub record Cellular (u : UnrolledProgram) (heads : Bool) (nodes : List TermNode) (places : List ℕ) : Type 0 where
@@ -61,9 +61,9 @@ pub record IsWord (nodes : List TermNode) (w t : ℕ) (f : TermReading → ℕ) 
 abbrev pub IsNumber : Build → (address number : ℕ) → Type 0
 IsNumber b a j = (j < length (read_places b)) × (slice_index (read_places b) j ≡ a)
 
--- it is, if a marked piece is the memory of a part
-abbrev pub IsNumberFor : Build → List Piece → List Bool → (address number : ℕ) → Type 0
-IsNumberFor b pieces marks a j = (q p : ℕ) → q < length marks → bool_at marks q ≡ true → piece_at pieces q ≡ Entry p → IsNumber b a j
+-- it is, if a marked piece may read the memory of a part there
+abbrev pub IsNumberFor : Build → List Piece → List Bool → (at : Split) → (address number : ℕ) → Type 0
+IsNumberFor b pieces marks at a j = (q p : ℕ) → q < length marks → bool_at marks q ≡ true → part_read at (piece_at pieces q) ≡ Some p → IsNumber b a j
 
 -- a term has a byte that hangs on the parts' memories
 pub record IsByte (b : Build) (t : ℕ) (f : TermReading → ℕ) : Type 0 where
@@ -112,4 +112,12 @@ pub record StoresWord (old new : Build) (stored : List StoredByte) (m a v n : �
 abbrev pub IsStore : (old new : Build) → List StoredByte → (m a v n : ℕ) → Endian → Piece → Type 0
 IsStore old new stored m a v n e (Entry p) = ⊥
 IsStore old new stored m a v n e (Store p to f k) = (p ≡ m) × (k ≡ n) × StoresWord old new stored m a v n e f to
+IsStore old new stored m a v n e (Take p t) = ⊥
 IsStore old new stored m a v n e (Join c p q) = ⊥
+
+-- a piece takes bytes of a part's memory in another
+abbrev pub IsTake : (old new : Build) → (memory first bytes part : ℕ) → Piece → Type 0
+IsTake old new m a n part (Entry p) = ⊥
+IsTake old new m a n part (Store p to f k) = ⊥
+IsTake old new m a n part (Take p t) = (p ≡ m) × (t.bytes ≡ n) × (t.first.0 ≡ a) × (t.part ≡ part) × IsTaken new t
+IsTake old new m a n part (Join c p q) = ⊥

@@ -9,9 +9,8 @@ use Rattle.mem_cells.specs.declared.building.Build.{Build}
 use Rattle.mem_cells.specs.declared.lowering.Lowered.{Lowered}
 use Rattle.mem_cells.specs.declared.pieces.StoredByte.{StoredByte}
 use Rattle.mem_cells.specs.declared.pieces.Piece.{Piece}
-use Rattle.mem_cells.specs.declared.pieces.Piece.TheVariants.{Entry}
-use Rattle.mem_cells.specs.Parts.{frame_of_build, heads_of_build, HasPart}
-use Rattle.mem_cells.specs.Pieces.{ArePieces, link, piece_at, piece_gates}
+use Rattle.mem_cells.specs.Parts.{frame_of_build, heads_of_build}
+use Rattle.mem_cells.specs.Pieces.{ArePieces, link, piece_gates}
 use Rattle.mem_cells.specs.Building.{read_places, IsBuilt, GivesAll, AreMemories}
 
 -- the nodes of the question that is built
@@ -26,12 +25,11 @@ pub record Mean (x : TermReading) (ns : List TermNode) (d : ℕ) (w : ℕ →
   pub bytes : (t : ℕ) → t < d → width_of (node_at ns t) ≡ 0 → (i : ℕ) → i < 2 ^ 32 → memories (slice_index numbers t) i ≡ (term_value x ns t).bytes i
 
 -- The first terms of some nodes have a word of their width or the number of a piece each, with their values where each part's memory has the bytes of
--- its reads. The memory of a part that terms may read is the piece of the part's number.
+-- its reads.
 pub record Stands (ns : List TermNode) (d : ℕ) (b : Build) (words : List Term) (numbers : List ℕ) (stored : List StoredByte) (ps : List Piece) : Type 0 where
   pub built : IsBuilt b
   pub word_count : length words ≡ d
   pub number_count : length numbers ≡ d
-  pub entries : (p : ℕ) → HasPart b p → (p < length ps) × (piece_at ps p ≡ Entry p)
   pub pieces : ArePieces b stored ps
   pub widths : (t : ℕ) → t < d → 1 ≤ width_of (node_at ns t) → HasWidth b.dag (width_of (node_at ns t)) (link words t)
   pub within : (t : ℕ) → t < d → width_of (node_at ns t) ≡ 0 → slice_index numbers t < length ps

@@ -5,7 +5,7 @@ use Rattle.term_spec.specs.Terms.{TermReading, InRange, TermNode, HasWidth, widt
 use Rattle.term_spec.specs.Cells.{cell_gates}
 use Rattle.term_spec.specs.WalkQuestions.{QuestionTerm, is_asked}
 use Rattle.frame_spec.specs.FrameWalk.{UnrolledProgram}
-use Rattle.frame_laws.specs.FramePrices.{known_of}
+use Rattle.frame_laws.specs.FramePrices.{stores_of, known_of}
 use Rattle.frame_terms.specs.PassiveFrames.{NamesMemory}
 use Rattle.frame_terms.specs.FrameCells.{Cells, Gives, IsAllowed, AreFormed, HaveAsked, Completes}
 use Rattle.frame_terms.specs.HeadlessTerms.{as_read}
@@ -40,7 +40,7 @@ pub record TellsWords (u : UnrolledProgram) (heads of_head : Bool) (t : Question
   pub gates : (loads stores edges : ℕ) → term_loads t.nodes ≤ loads → term_stores t.nodes ≤ stores → term_joins t.nodes ≤ edges + 2 * stores →
       term_gates c.nodes ≤ term_gates t.nodes + cell_gates loads stores edges (known_of u)
   pub few : length c.addresses ≤ term_loads t.nodes
-  pub few_reads : length c.reads ≤ 2 * length c.addresses
+  pub few_reads : length c.reads ≤ length c.addresses * (2 + stores_of u)
   pub flat : ((p : ℕ) → NamesMemory u heads p → p ≡ 0) → c.reads ≡ map as_read (from_to 0 (length c.addresses))
 
 -- cells are those of a question of a frame, and places stand for some of its words

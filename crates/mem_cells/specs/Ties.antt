@@ -1,12 +1,11 @@
 -- What base reads have to agree in, as far as it is said.
-use Rattle.std.specs.Prelude.{ℕ, ◌≡◌, ◌<◌, ◌⊎◌, ◌&&◌, true, List, ◌++◌, length, slice_index, slice_index_or, Contains}
+use Rattle.std.specs.Prelude.{ℕ, ◌≡◌, ◌<◌, ◌⊎◌, true, List, filter, length, map, slice_index, slice_index_or, Contains}
 use Rattle.term_spec.specs.Terms.{TermReading, InRange, HasWidth, term_word}
 use Rattle.term_dag.specs.declared.nodes.Term.{Term}
 use Rattle.mem_cells.specs.declared.building.Build.{Build}
 use Rattle.mem_cells.specs.declared.cells.Agreement.{Agreement}
-use Rattle.mem_cells.specs.declared.parts.Parts.{Parts}
 use Rattle.mem_cells.specs.declared.pieces.Split.{Split}
-use Rattle.mem_cells.specs.Parts.{no_parts, is_read, one_if}
+use Rattle.mem_cells.specs.Parts.{has_part, is_read}
 use Rattle.mem_cells.specs.Pieces.{IsSplit}
 use Rattle.mem_cells.specs.Building.{read_places}
 
@@ -27,12 +26,12 @@ abbrev pub Agree : Build → TermReading → List Agreement → (base : (part : 
 Agree b x ts base = (a : Agreement) → Contains ts a → term_word x b.dag a.condition.0 ≡ 1 → base a.part a.read ≡ base a.part a.other
 
 -- the part of an agreement is read at both addresses
-abbrev pub AreBothRead : List Parts → Agreement → Type 0
+abbrev pub AreBothRead : List (List ℕ) → Agreement → Type 0
 AreBothRead parts a = (is_read parts a.part a.read ≡ true) × (is_read parts a.part a.other ≡ true)
 
 -- Agreements are over the reads; where one says that addresses are equal, they are; and they say so for each part that is read at both of two addresses of
 -- some.
-pub record AreTies (b : Build) (parts : List Parts) (ts : List Agreement) (pairs : ℕ → ℕ → Type 0) : Type 0 where
+pub record AreTies (b : Build) (parts : List (List ℕ)) (ts : List Agreement) (pairs : ℕ → ℕ → Type 0) : Type 0 where
   pub formed : (a : Agreement) → Contains ts a → HasWidth b.dag 1 a.condition.0 × (a.read < length (read_places b)) × (a.other < length (read_places b))
   pub read : (a : Agreement) → Contains ts a → AreBothRead parts a
   pub sound : (x : TermReading) → InRange x → (a : Agreement) → Contains ts a → term_word x b.dag a.condition.0 ≡ 1 →
@@ -41,20 +40,16 @@ pub record AreTies (b : Build) (parts : List Parts) (ts : List Agreement) (pairs
       is_read parts p j ≡ true → address_of b x i ≡ address_of b x j → base p i ≡ base p j
 
 -- the parts of both
-abbrev pub shared : (r s : Parts) → Parts
-shared r s = record { entry = r.entry && s.entry; head = r.head && s.head }
+abbrev pub shared : (r s : List ℕ) → List ℕ
+shared r s = filter (has_part s) r
 
 -- an agreement
 abbrev pub agreement : Term → (part read other : ℕ) → Agreement
 agreement t p i j = record { condition = t; part = p; read = i; other = j }
 
 -- agreements of parts
-abbrev pub agreements_of : Parts → Term → (read other : ℕ) → List Agreement
-agreements_of r t i j = one_if r.entry (agreement t 0 i j) ++ one_if r.head (agreement t 1 i j)
-
--- the parts that are read at the address of a number
-abbrev pub parts_at : List Parts → (number : ℕ) → Parts
-parts_at parts j = slice_index_or parts j no_parts
+abbrev pub agreements_of : List ℕ → Term → (read other : ℕ) → List Agreement
+agreements_of r t i j = map (λ p. agreement t p i j) r
 
 -- the pairs of a read and a later one, up to a pair
 abbrev pub Before : (other read : ℕ) → ℕ → ℕ → Type 0

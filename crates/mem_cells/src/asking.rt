@@ -1,15 +1,14 @@
 //! Which bytes of the file the base reads have.
 
-ghost use Rattle.std.specs.Prelude.{◌≡◌, ℕ, ◌+◌, ◌*◌, ◌<◌, ◌++◌, true, length, take, IfOk, OnOk};
+ghost use Rattle.std.specs.Prelude.{◌≡◌, ℕ, ◌+◌, ◌*◌, ◌<◌, ◌++◌, true, false, [], length, take, IfOk, OnOk};
 ghost use Rattle.term_spec.specs.Terms.{TermReading, term_word};
 ghost use Rattle.mem_cells.specs.Building.{read_places, IsBuilt, Grown, IsWord};
-ghost use Rattle.mem_cells.specs.Parts.{one_if, KeepsParts};
-ghost use Rattle.mem_cells.specs.Asked.{asked_of_parts, file_byte_at, parts_asked, AreAsked, AskedOf, AskedTo};
+ghost use Rattle.mem_cells.specs.Parts.{lists_of, one_if, KeepsParts};
+ghost use Rattle.mem_cells.specs.Asked.{asked_of_parts, file_byte_at, is_of_part, parts_asked, AreAsked, AskedOf, AskedTo};
 
 use crate::building::Build;
 use crate::cells::AskedByte;
 use crate::file_bytes::FileByte;
-use crate::parts::Parts;
 use std::alloc::{AllocError, Global};
 use term_dag::{Dag, Node, Op, Term};
 
@@ -24,14 +23,28 @@ fn is_zero(dag: &Dag, term: Term) -> bool
     }
 }
 
-/// The parts of whose memories a byte is asked.
-fn parts_for(parts: Parts, byte: FileByte) -> Parts
-    ensures { result ≡ parts_asked parts byte }
+/// Whether a byte is asked of the memory of a part: of the entry's, of the head's if it is kept, and of what is given never.
+fn is_of_part(byte: FileByte, part: u32) -> bool
+    ensures { result ≡ is_of_part byte part }
 {
-    Parts {
-        entry: parts.entry,
-        head: parts.head && byte.head,
+    match part {
+        0 => true,
+        1 => byte.head,
+        _ => false,
     }
+}
+
+/// Whether a byte is asked of one of some parts.
+fn is_asked_of(parts: &[u32], byte: FileByte) -> bool
+    ensures { result ≡ false → parts_asked parts.now byte ≡ [] }
+{
+    for place in 0..parts.len() {
+        let part = parts[place];
+        if is_of_part(byte, part) {
+            return true;
+        }
+    }
+    false
 }
 
 /// One more byte, if it is asked.
@@ -45,24 +58,27 @@ fn and_asked(asked: &mut Vec<AskedByte>, is_asked: bool, byte: AskedByte) -> Res
     Ok(())
 }
 
-/// Says for parts that a read has a byte where a bit is 1.
+/// Says for each part of which a byte is asked that a read has it where a bit is 1.
 fn ask_parts(
     asked: &mut Vec<AskedByte>,
-    parts: Parts,
+    parts: &[u32],
+    byte: FileByte,
     condition: Term,
     read: u32,
-    byte: u8,
 ) -> Result<(), AllocError>
-    ensures { OnOk result (asked.new.items ≡ asked.old.items ++ asked_of_parts parts condition read byte) }
+    ensures { OnOk result (asked.new.items ≡ asked.old.items ++ asked_of_parts (parts_asked parts.now byte) condition read byte.byte) }
 {
-    let entry = AskedByte {
-        condition,
-        part: 0,
-        read,
-        byte,
-    };
-    and_asked(asked, parts.entry, entry)?;
-    and_asked(asked, parts.head, AskedByte { part: 1, ..entry })?;
+    for place in 0..parts.len() {
+        let part = parts[place];
+        let is_asked = is_of_part(byte, part);
+        let one = AskedByte {
+            condition,
+            part,
+            read,
+            byte: byte.byte,
+        };
+        and_asked(asked, is_asked, one)?;
+    }
     Ok(())
 }
 
@@ -71,7 +87,7 @@ fn ask_parts(
 fn ask(
     build: &mut Build,
     asked: &mut Vec<AskedByte>,
-    parts: &[Parts],
+    parts: &[Vec<u32>],
     file: &[FileByte],
     place: usize,
     address: Term,
@@ -82,15 +98,14 @@ fn ask(
     requires address { IsWord build.old.dag 32 address.0 (λ x. (file_byte_at file.now place).at) }
     requires read { read < length (read_places build.old) }
     requires parts { length parts.now ≡ length (read_places build.old) }
-    requires asked { AreAsked build.old parts.now file.now asked.old.items
+    requires asked { AreAsked build.old (lists_of parts.now) file.now asked.old.items
         (AskedTo (length (read_places build.old)) (take place file.now) (file_byte_at file.now place) read) }
     ensures grown { OnOk result (Grown build.old build.new 32 0) }
     ensures kept { OnOk result (KeepsParts build.old build.new) }
-    ensures asked { OnOk result (AreAsked build.new parts.now file.now asked.new.items
+    ensures asked { OnOk result (AreAsked build.new (lists_of parts.now) file.now asked.new.items
         (AskedTo (length (read_places build.new)) (take place file.now) (file_byte_at file.now place) (read + 1))) }
 {
-    let asked_parts = parts_for(parts[read as usize], file[place]);
-    if asked_parts.is_none() {
+    if !is_asked_of(&parts[read as usize], file[place]) {
         return Ok(());
     }
     let left = build.addresses[read as usize];
@@ -103,7 +118,7 @@ fn ask(
     if is_zero(&build.dag, condition) {
         return Ok(());
     }
-    ask_parts(asked, asked_parts, condition, read, file[place].byte)?;
+    ask_parts(asked, &parts[read as usize], file[place], condition, read)?;
     Ok(())
 }
 
@@ -111,7 +126,7 @@ fn ask(
 fn ask_reads(
     build: &mut Build,
     asked: &mut Vec<AskedByte>,
-    parts: &[Parts],
+    parts: &[Vec<u32>],
     file: &[FileByte],
     place: usize,
     count: u32,
@@ -120,10 +135,10 @@ fn ask_reads(
     requires place { place < length file.now }
     requires count { count ≡ length (read_places build.old) }
     requires parts { length parts.now ≡ length (read_places build.old) }
-    requires asked { AreAsked build.old parts.now file.now asked.old.items (AskedOf (length (read_places build.old)) (take place file.now)) }
+    requires asked { AreAsked build.old (lists_of parts.now) file.now asked.old.items (AskedOf (length (read_places build.old)) (take place file.now)) }
     ensures grown { OnOk result (Grown build.old build.new (32 * count) 0) }
     ensures kept { OnOk result (KeepsParts build.old build.new) }
-    ensures asked { OnOk result (AreAsked build.new parts.now file.now asked.new.items (AskedOf (length (read_places build.new)) (take (place + 1) file.now))) }
+    ensures asked { OnOk result (AreAsked build.new (lists_of parts.now) file.now asked.new.items (AskedOf (length (read_places build.new)) (take (place + 1) file.now))) }
 {
     let address = build.make(Node::Constant {
         width: 32,
@@ -139,14 +154,14 @@ fn ask_reads(
 pub fn ask_bytes(
     build: &mut Build,
     alloc: Global,
-    parts: &[Parts],
+    parts: &[Vec<u32>],
     file: &[FileByte],
 ) -> Result<Vec<AskedByte>, AllocError>
     requires built { IsBuilt build.old }
     requires parts { length parts.now ≡ length (read_places build.old) }
     ensures grown { OnOk result (Grown build.old build.new (32 * (length (read_places build.old) * length file.now)) 0) }
     ensures kept { OnOk result (KeepsParts build.old build.new) }
-    ensures asked { IfOk result (λ v. AreAsked build.new parts.now file.now v.items (AskedOf (length (read_places build.new)) file.now)) }
+    ensures asked { IfOk result (λ v. AreAsked build.new (lists_of parts.now) file.now v.items (AskedOf (length (read_places build.new)) file.now)) }
 {
     let count = build.addresses.len();
     if count > u32::MAX as usize {

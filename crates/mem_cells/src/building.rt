@@ -1,15 +1,15 @@
 //! Cells as they are built.
 
-ghost use Rattle.std.specs.Prelude.{◌≡◌, ℕ, ◌+◌, ◌*◌, ◌-◌, ◌<◌, ◌≤◌, ◌⊎◌, ◌==◌, if◌then◌else◌, true, [], length, slice_index, slice_index_or, sum_by, Contains, IfOk, IfSome, OnOk};
+ghost use Rattle.std.specs.Prelude.{◌≡◌, ℕ, ◌+◌, ◌*◌, ◌-◌, ◌<◌, ◌≤◌, ◌⊎◌, ◌==◌, ◌||◌, ◌^◌, if◌then◌else◌, true, false, [], Some, length, slice_index, slice_index_or, sum_by, Contains, IfOk, IfSome, OnOk};
 ghost use Rattle.term_spec.specs.Terms.{TermReading, InRange, TermNode, BaseNode, HasWidth, node_value, own_gates, term_word, values_from, width_of};
 ghost use Rattle.term_dag.specs.Nodes.{node_of};
-ghost use Rattle.mem_cells.specs.Pieces.{AreBytes, AreClosed, ArePieces, bool_at, IsPiece, HasLinks, IsSplit, link, piece_at, piece_byte, piece_gates, put_bytes, stored_at};
-ghost use Rattle.mem_cells.specs.declared.pieces.Piece.TheVariants.{Entry};
+ghost use Rattle.mem_cells.specs.Pieces.{AreBytes, AreClosed, ArePieces, bool_at, ends_in, is_among, lies_apart, part_read, IsPiece, HasLinks, IsSplit, IsTaken, link, piece_at, piece_byte, piece_gates, put_bytes, stored_at, taken_over};
+ghost use Rattle.word_spec.specs.Words.{bit};
 ghost use Rattle.mem_cells.specs.Parts.{frame_of_build, heads_of_build, HasPart};
 ghost use Rattle.mem_cells.specs.Building.{read_places, IsBuilt, GivesAll, Grown, IsNumber, IsNumberFor, IsOwnNode, IsWord, IsByte, IsByteOf};
 
 use crate::pieces::{
-    Memories, Piece, Split, StoredByte, first_part, is_apart, is_within, marked, sum_of,
+    Memories, Piece, Split, StoredByte, Taken, first_part, is_apart, is_within, marked, sum_of,
 };
 use question_form::Question;
 use std::alloc::{AllocError, Global};
@@ -90,11 +90,12 @@ impl<'a> Build<'a> {
         Ok(number)
     }
 
-    /// The number of an address, if a marked piece is the memory of a part; else any.
+    /// The number of an address, if a marked piece may read the memory of a part there; else any.
     fn number_for(
         &mut self,
         memories: &Memories,
         marks: &[bool],
+        at: Split,
         address: Term,
     ) -> Result<u32, AllocError>
         requires built { IsBuilt self.old }
@@ -102,9 +103,9 @@ impl<'a> Build<'a> {
         requires few { length marks.now ≤ length memories.now.pieces.items }
         requires address { HasWidth self.old.dag 32 address.0 }
         ensures grown { OnOk result (Grown self.old self.new 0 1) }
-        ensures number { IfOk result (λ j. IsNumberFor self.new memories.now.pieces.items marks.now address.0 j) }
+        ensures number { IfOk result (λ j. IsNumberFor self.new memories.now.pieces.items marks.now at address.0 j) }
     {
-        match first_part(&memories.pieces, marks) {
+        match first_part(&memories.pieces, marks, at) {
             None => Ok(0),
             Some(part) => {
                 let number = self.number(part, address)?;
@@ -176,6 +177,128 @@ impl<'a> Build<'a> {
         Ok(byte)
     }
 
+    /// Whether an address is one of two.
+    fn is_either(&mut self, address: Term, first: Term, second: Term) -> Result<Term, AllocError>
+        requires built { IsBuilt self.old }
+        requires address { HasWidth self.old.dag 32 address.0 }
+        requires first { HasWidth self.old.dag 32 first.0 }
+        requires second { HasWidth self.old.dag 32 second.0 }
+        ensures grown { OnOk result (Grown self.old self.new 65 0) }
+        ensures bit { IfOk result (λ t. IsWord self.new.dag 1 t.0 (λ x. bit ((term_word x self.old.dag address.0 == term_word x self.old.dag first.0) ||
+            (term_word x self.old.dag address.0 == term_word x self.old.dag second.0)))) }
+    {
+        let is_first = self.make(Node::Binary {
+            op: Op::Equal,
+            width: 32,
+            left: address,
+            right: first,
+        })?;
+        let is_second = self.make(Node::Binary {
+            op: Op::Equal,
+            width: 32,
+            left: address,
+            right: second,
+        })?;
+        let either = self.make(Node::Binary {
+            op: Op::Or,
+            width: 1,
+            left: is_first,
+            right: is_second,
+        })?;
+        Ok(either)
+    }
+
+    /// Whether an address is one of so many from one on.
+    fn is_from(&mut self, address: Term, first: Term, bytes: u32) -> Result<Term, AllocError>
+        requires built { IsBuilt self.old }
+        requires address { HasWidth self.old.dag 32 address.0 }
+        requires first { HasWidth self.old.dag 32 first.0 }
+        requires bytes { bytes < 2 ^ 32 }
+        ensures grown { OnOk result (Grown self.old self.new 96 0) }
+        ensures bit { IfOk result (λ t. IsWord self.new.dag 1 t.0
+            (λ x. bit (is_among (term_word x self.old.dag first.0) bytes (term_word x self.old.dag address.0)))) }
+    {
+        let distance = self.make(Node::Binary {
+            op: Op::Minus,
+            width: 32,
+            left: address,
+            right: first,
+        })?;
+        let count = self.make(Node::Constant {
+            width: 32,
+            value: bytes as u64,
+        })?;
+        let below = self.make(Node::Binary {
+            op: Op::Less,
+            width: 32,
+            left: distance,
+            right: count,
+        })?;
+        Ok(below)
+    }
+
+    /// Whether an address is one of those of bytes that are taken: by an equality for each, and from three on by its distance from the first.
+    fn is_taken(&mut self, taken: Taken, address: Term) -> Result<Term, AllocError>
+        requires built { IsBuilt self.old }
+        requires taken { IsTaken self.old taken }
+        requires address { HasWidth self.old.dag 32 address.0 }
+        ensures grown { OnOk result (Grown self.old self.new (40 * taken.bytes - 8) 0) }
+        ensures bit { IfOk result (λ t. IsWord self.new.dag 1 t.0
+            (λ x. bit (is_among (term_word x self.old.dag taken.first.0) taken.bytes (term_word x self.old.dag address.0)))) }
+    {
+        if taken.bytes == 1 {
+            let is_first = self.make(Node::Binary {
+                op: Op::Equal,
+                width: 32,
+                left: address,
+                right: taken.first,
+            })?;
+            return Ok(is_first);
+        }
+        if taken.bytes == 2 {
+            let either = self.is_either(address, taken.first, taken.second)?;
+            return Ok(either);
+        }
+        let among = self.is_from(address, taken.first, taken.bytes)?;
+        Ok(among)
+    }
+
+    /// The byte at an address where some bytes of a part's memory stand over one. The number is that of the address, if it may be one of those.
+    fn over_take(
+        &mut self,
+        taken: Taken,
+        below: Term,
+        at: Split,
+        address: Term,
+        number: u32,
+    ) -> Result<Term, AllocError>
+        requires built { IsBuilt self.old }
+        requires taken { IsTaken self.old taken }
+        requires below { ends_in at taken.at taken.bytes ≡ false → HasWidth self.old.dag 8 below.0 }
+        requires split { IsSplit self.old.dag address.0 at.base.0 at.offset }
+        requires address { HasWidth self.old.dag 32 address.0 }
+        requires number { lies_apart at taken.at taken.bytes ≡ false → IsNumber self.old address.0 number }
+        ensures grown { OnOk result (Grown self.old self.new (40 * taken.bytes) 0) }
+        ensures byte { IfOk result (λ t. IsByte self.new t.0 (λ x. taken_over (term_word x self.old.dag) x.mem taken
+            (term_word x self.old.dag below.0) (term_word x self.old.dag address.0))) }
+    {
+        if is_apart(at, taken.at, taken.bytes) {
+            return Ok(below);
+        }
+        let own = self.read(taken.part, number)?;
+        if is_within(at, taken.at, taken.bytes) {
+            return Ok(own);
+        }
+        let condition = self.is_taken(taken, address)?;
+        let over = self.make(Node::Select {
+            width: 8,
+            condition,
+            when_true: own,
+            when_false: below,
+        })?;
+        Ok(over)
+    }
+
     /// The byte at an address of a piece, over those of the pieces before it.
     fn step(
         &mut self,
@@ -188,7 +311,7 @@ impl<'a> Build<'a> {
     ) -> Result<Term, AllocError>
         requires built { IsBuilt self.old }
         requires piece { IsPiece self.old stored.now (length chain.now) piece }
-        requires number { (p : ℕ) → piece ≡ Entry p → IsNumber self.old address.0 number }
+        requires number { (p : ℕ) → part_read at piece ≡ Some p → IsNumber self.old address.0 number }
         requires links { HasLinks self.old.dag chain.now at piece }
         requires split { IsSplit self.old.dag address.0 at.base.0 at.offset }
         requires address { HasWidth self.old.dag 32 address.0 }
@@ -207,13 +330,17 @@ impl<'a> Build<'a> {
                 first,
                 bytes,
             } => {
-                if is_within(at, to, bytes) {
+                if is_within(at, to, bytes as u32) {
                     return Ok(stored[first + at.offset.wrapping_sub(to.offset) as usize].value);
                 }
-                if is_apart(at, to, bytes) {
+                if is_apart(at, to, bytes as u32) {
                     return Ok(chain[memory]);
                 }
                 let byte = self.over_store(stored, first, bytes, address, chain[memory])?;
+                Ok(byte)
+            }
+            Piece::Take { memory, taken } => {
+                let byte = self.over_take(taken, chain[memory], at, address, number)?;
                 Ok(byte)
             }
             Piece::Join {
@@ -244,7 +371,7 @@ impl<'a> Build<'a> {
     ) -> Result<Term, AllocError>
         requires built { IsBuilt self.old }
         requires pieces { ArePieces self.old memories.now.stored.items memories.now.pieces.items }
-        requires number { IsNumberFor self.old memories.now.pieces.items marks.now address.0 number }
+        requires number { IsNumberFor self.old memories.now.pieces.items marks.now at address.0 number }
         requires some { 1 ≤ length marks.now }
         requires few { length marks.now ≤ length memories.now.pieces.items }
         requires last { bool_at marks.now (length marks.now - 1) ≡ true }
@@ -294,7 +421,7 @@ impl<'a> Build<'a> {
         })?;
         let at = sum_of(&self.dag, zero, address);
         let marks = marked(alloc, &memories.pieces, memory, at)?;
-        let number = self.number_for(memories, &marks, address)?;
+        let number = self.number_for(memories, &marks, at, address)?;
         let byte = self.chain(alloc, memories, &marks, at, address, number)?;
         Ok(byte)
     }

@@ -12,6 +12,7 @@ mod making;
 mod parts;
 mod pieces;
 mod stores;
+mod takes;
 mod ties;
 
 pub use cells::{Agreement, AskedByte, BaseRead, Celled, CelledWords};

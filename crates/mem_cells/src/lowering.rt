@@ -1,15 +1,14 @@
 //! The terms of a question as cells.
 
-ghost use Rattle.std.specs.Prelude.{◌≡◌, ◌+◌, ◌<◌, if◌then◌else◌, [], ◌∷◌, length, map, slice_index, Contains, IfOk, OnOk};
+ghost use Rattle.std.specs.Prelude.{◌≡◌, ◌+◌, ◌<◌, [], length, map, slice_index, Contains, IfOk, OnOk};
 ghost use Rattle.std.specs.List.{AllByRecursion};
 ghost use Rattle.term_spec.specs.Cells.{IsOfWords};
-ghost use Rattle.term_spec.specs.Terms.{LoadNode, StoreNode, JoinNode, MemoryNode, AreTyped};
+ghost use Rattle.term_spec.specs.Terms.{LoadNode, StoreNode, JoinNode, MemoryNode, TakeNode, AreTyped};
 ghost use Rattle.frame_terms.specs.PassiveFrames.{AreNamedBelow};
 ghost use Rattle.word_spec.specs.Memory.{endian};
 ghost use Rattle.term_dag.specs.Nodes.{node_of};
 ghost use Rattle.term_dag.specs.Made.{moved, operands};
 ghost use Rattle.mem_cells.specs.Pieces.{link};
-ghost use Rattle.mem_cells.specs.declared.pieces.Piece.TheVariants.{Entry};
 ghost use Rattle.mem_cells.specs.Building.{read_places, IsBuilt};
 ghost use Rattle.mem_cells.specs.Parts.{frame_of_build, heads_of_build};
 ghost use Rattle.mem_cells.specs.Lowering.{source_of, Lowers, IsNextOf};
@@ -20,6 +19,7 @@ use crate::building::Build;
 use crate::loads::load;
 use crate::pieces::{Memories, Piece};
 use crate::stores::store;
+use crate::takes::take;
 use std::alloc::{AllocError, Global};
 use term_dag::{Node, Term};
 
@@ -166,8 +166,34 @@ fn lower_entry(build: &Build, lowered: &mut Lowered, part: u32) -> Result<(), Al
     ensures { OnOk result (Lowers (length lowered.old.words.items + 1) build.now lowered.new) }
 {
     let _ = build;
+    let count = lowered.memories.pieces.len();
+    lowered.memories.pieces.push(Piece::Entry(part))?;
     lowered.words.push(Term(0))?;
-    lowered.numbers.push(part as usize)?;
+    lowered.numbers.push(count)?;
+    Ok(())
+}
+
+/// The next term, a memory with some bytes of a part's.
+fn lower_take(
+    build: &mut Build,
+    lowered: &mut Lowered,
+    bytes: u32,
+    memory: Term,
+    address: Term,
+    part: u32,
+) -> Result<(), AllocError>
+    requires lowered { Lowers (length lowered.old.words.items) build.old lowered.old }
+    requires next { IsNextOf (length lowered.old.words.items) build.old (TakeNode bytes memory.0 address.0 part) }
+    ensures question { OnOk result (build.new.question ≡ build.old.question) }
+    ensures lowered { OnOk result (Lowers (length lowered.old.words.items + 1) build.new lowered.new) }
+{
+    let number = lowered.number(memory);
+    let first = lowered.word(address);
+    let piece = take(build, number, first, bytes, part)?;
+    let count = lowered.memories.pieces.len();
+    lowered.memories.pieces.push(piece)?;
+    lowered.words.push(Term(0))?;
+    lowered.numbers.push(count)?;
     Ok(())
 }
 
@@ -203,21 +229,15 @@ fn lower(
             when_true,
             when_false,
         } => lower_join(build, lowered, condition, when_true, when_false)?,
+        Node::Take {
+            bytes,
+            memory,
+            address,
+            part,
+        } => lower_take(build, lowered, bytes, memory, address, part)?,
         _ => lower_word(build, lowered, node)?,
     }
     Ok(())
-}
-
-/// The memories that the parts begin with: the entry's, and the head's, if there is one.
-fn entries(alloc: Global, heads: bool) -> Result<Vec<Piece>, AllocError>
-    ensures { IfOk result (λ v. v.items ≡ Entry 0 ∷ (if heads then Entry 1 ∷ [] else [])) }
-{
-    let mut pieces = vec![in alloc; Piece::Entry(0)]?;
-    if heads {
-        pieces.push(Piece::Entry(1))?;
-        return Ok(pieces);
-    }
-    Ok(pieces)
 }
 
 /// All terms.
@@ -238,7 +258,7 @@ pub fn lower_all(build: &mut Build, alloc: Global) -> Result<Lowered, AllocError
         words: Vec::with_capacity(alloc, count)?,
         numbers: Vec::with_capacity(alloc, count)?,
         memories: Memories {
-            pieces: entries(alloc, question.passive.unrolled.heads)?,
+            pieces: Vec::new(alloc),
             stored: Vec::new(alloc),
         },
     };

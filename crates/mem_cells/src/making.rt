@@ -15,6 +15,7 @@ ghost use Rattle.question_form.specs.FrameViews.{IsHeadless};
 ghost use Rattle.mem_cells.specs.Views.{cells_of, AreCellsOf};
 ghost use Rattle.mem_cells.specs.FrameViews.{frame_cells_of, AreFrameCellsOf};
 ghost use Rattle.mem_cells.specs.Words.{IsWordAt, AreCellsWithWords};
+ghost use Rattle.mem_cells.specs.Parts.{CountsGifts};
 ghost use Rattle.mem_cells.specs.Tells.{AreMadeOf};
 
 use crate::asking::ask_bytes;
@@ -52,6 +53,7 @@ fn made<'a>(
     requires root { HasWidth (term_of question.now).nodes 1 (term_of question.now).root }
     requires words { (t : Term) → Contains words.now t → IsWordAt (term_of question.now).nodes t.0 }
     requires bytes { (a b : ℕ) → byte_of_runs (frame_of_question question.now).known a ≡ Some b → b < 256 }
+    requires gifts { CountsGifts (frame_of_question question.now) }
     ensures { IfOk result (λ c. AreMadeOf question.now words.now added.now c) }
 {
     let mut build = Build {
@@ -91,7 +93,7 @@ fn made<'a>(
 }
 
 /// The cells of a question of a frame, in which those known bytes are asked that were added, and the four of each literal's word: of the entry's memory all of
-/// them, and of the head's those that are kept, if the question is of head states. An address that is not known is not asked.
+/// them, of the head's those that are kept, if the question is of head states, and of what is given none. An address that is not known is not asked.
 ///
 /// # Errors
 ///
@@ -105,6 +107,7 @@ pub fn frame_cells<'a>(
         (frames.question_room (frame_of_question question.now) (heads_of_question question.now)) (term_of question.now).nodes }
     requires root { HasWidth (term_of question.now).nodes 1 (term_of question.now).root }
     requires bytes { (a b : ℕ) → byte_of_runs (frame_of_question question.now).known a ≡ Some b → b < 256 }
+    requires gifts { CountsGifts (frame_of_question question.now) }
     requires rising { (i j : ℕ) → i < j → j < length added.now → slice_index added.now i < slice_index added.now j }
     ensures { IfOk result (λ c. AreFrameCellsOf question.now added.now c) }
 {

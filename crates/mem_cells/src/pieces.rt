@@ -1,9 +1,8 @@
 //! Memories as pieces, and which of them the byte at an address needs.
 
-ghost use Rattle.std.specs.Prelude.{◌≡◌, ℕ, ◌+◌, ◌<◌, ◌≤◌, ◌⊎◌, Bool, true, false, List, length, slice_get, slice_index_or, IfOk, IfSome, IfNone};
+ghost use Rattle.std.specs.Prelude.{◌≡◌, ℕ, ◌+◌, ◌<◌, ◌≤◌, ◌⊎◌, Bool, true, false, List, Some, length, slice_get, slice_index_or, IfOk, IfSome, IfNone};
 ghost use Rattle.term_spec.specs.Terms.{AreTyped, HasWidth};
-ghost use Rattle.mem_cells.specs.declared.pieces.Piece.TheVariants.{Entry};
-ghost use Rattle.mem_cells.specs.Pieces.{ends_in, lies_apart, bool_at, AreRising, IsRising, Needs, AreClosed, IsSplit, IsZero, piece_at};
+ghost use Rattle.mem_cells.specs.Pieces.{ends_in, lies_apart, bool_at, AreRising, IsRising, Needs, AreClosed, IsSplit, IsZero, part_read, piece_at};
 
 use std::alloc::{AllocError, Global};
 use term_dag::{Dag, Node, Op, Term};
@@ -22,6 +21,19 @@ pub struct StoredByte {
     pub value: Term,
 }
 
+/// Bytes that are taken from the memory of a part: so many, at the addresses from one on.
+#[derive(Clone, Copy)]
+pub struct Taken {
+    pub part: u32,
+    pub bytes: u32,
+    /// The first address.
+    pub first: Term,
+    /// The second, if there are two bytes.
+    pub second: Term,
+    /// The first as a sum.
+    pub at: Split,
+}
+
 /// A memory, over earlier ones by their numbers.
 #[derive(Clone, Copy)]
 pub enum Piece {
@@ -33,6 +45,11 @@ pub enum Piece {
         at: Split,
         first: usize,
         bytes: u8,
+    },
+    /// A memory with some bytes of a part's.
+    Take {
+        memory: usize,
+        taken: Taken,
     },
     /// One of two memories.
     Join {
@@ -83,28 +100,44 @@ pub fn sum_of(dag: &Dag, zero: Term, term: Term) -> Split
 }
 
 /// Whether an address is surely one of those of some bytes from another on.
-pub fn is_within(address: Split, first: Split, bytes: u8) -> bool
+pub fn is_within(address: Split, first: Split, bytes: u32) -> bool
     ensures { result ≡ ends_in address first bytes }
 {
-    address.base.0 == first.base.0 && address.offset.wrapping_sub(first.offset) < bytes as u32
+    address.base.0 == first.base.0 && address.offset.wrapping_sub(first.offset) < bytes
 }
 
 /// Whether an address is surely none of those of some bytes from another on.
-pub fn is_apart(address: Split, first: Split, bytes: u8) -> bool
+pub fn is_apart(address: Split, first: Split, bytes: u32) -> bool
     ensures { result ≡ lies_apart address first bytes }
 {
-    address.base.0 == first.base.0 && address.offset.wrapping_sub(first.offset) >= bytes as u32
+    address.base.0 == first.base.0 && address.offset.wrapping_sub(first.offset) >= bytes
 }
 
-/// The part of the first marked piece that is the memory of one.
-pub fn first_part(pieces: &[Piece], marks: &[bool]) -> Option<u32>
+/// The part whose memory the byte at an address of a piece reads, if it may.
+fn part_read(piece: Piece, address: Split) -> Option<u32>
+    ensures { result ≡ part_read address piece }
+{
+    match piece {
+        Piece::Entry(part) => Some(part),
+        Piece::Take { taken, .. } => {
+            if is_apart(address, taken.at, taken.bytes) {
+                return None;
+            }
+            Some(taken.part)
+        }
+        Piece::Store { .. } | Piece::Join { .. } => None,
+    }
+}
+
+/// The part whose memory the first marked piece that may read one reads at an address.
+pub fn first_part(pieces: &[Piece], marks: &[bool], address: Split) -> Option<u32>
     requires { length marks.now ≤ length pieces.now }
-    ensures some { IfSome result (λ p. (q : ℕ) × (q < length marks.now) × (piece_at pieces.now q ≡ Entry p)) }
-    ensures none { IfNone result ((q p : ℕ) → q < length marks.now → bool_at marks.now q ≡ true → piece_at pieces.now q ≡ Entry p → ⊥) }
+    ensures some { IfSome result (λ p. (q : ℕ) × (q < length marks.now) × (part_read address (piece_at pieces.now q) ≡ Some p)) }
+    ensures none { IfNone result ((q p : ℕ) → q < length marks.now → bool_at marks.now q ≡ true → part_read address (piece_at pieces.now q) ≡ Some p → ⊥) }
 {
     for q in 0..marks.len() {
         if marks[q] {
-            if let Piece::Entry(part) = pieces[q] {
+            if let Some(part) = part_read(pieces[q], address) {
                 return Some(part);
             }
         }
@@ -128,7 +161,12 @@ fn mark(marks: &mut Vec<bool>, piece: Piece, address: Split)
             bytes,
             ..
         } => {
-            if !is_within(address, at, bytes) {
+            if !is_within(address, at, bytes as u32) {
+                marks[memory] = true;
+            }
+        }
+        Piece::Take { memory, taken } => {
+            if !is_within(address, taken.at, taken.bytes) {
                 marks[memory] = true;
             }
         }

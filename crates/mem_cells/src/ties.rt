@@ -1,26 +1,29 @@
 //! What base reads have to agree in.
 
-ghost use Rattle.std.specs.Prelude.{◌≡◌, ◌+◌, ◌*◌, ◌-◌, ◌<◌, ◌++◌, length, IfOk, OnOk};
+ghost use Rattle.std.specs.Prelude.{◌≡◌, ◌+◌, ◌*◌, ◌-◌, ◌<◌, ◌++◌, false, [], length, IfOk, OnOk};
 ghost use Rattle.mem_cells.specs.Pieces.{IsZero};
 ghost use Rattle.mem_cells.specs.Building.{read_places, IsBuilt, Grown};
-ghost use Rattle.mem_cells.specs.Parts.{one_if, KeepsParts};
+ghost use Rattle.mem_cells.specs.Parts.{lists_of, one_if, KeepsParts};
 ghost use Rattle.mem_cells.specs.Ties.{agreements_of, shared, AreSums, AreTies, Before};
 
 use crate::building::Build;
 use crate::cells::Agreement;
-use crate::parts::Parts;
+use crate::parts::has_part;
 use crate::pieces::{Split, is_apart, sum_of};
 use std::alloc::{AllocError, Global};
 use term_dag::{Node, Op, Term};
 
-/// The parts of both.
-fn both(parts: Parts, others: Parts) -> Parts
-    ensures { result ≡ shared parts others }
+/// Whether some share a part with others.
+fn is_shared(parts: &[u32], others: &[u32]) -> bool
+    ensures { result ≡ false → shared parts.now others.now ≡ [] }
 {
-    Parts {
-        entry: parts.entry && others.entry,
-        head: parts.head && others.head,
+    for place in 0..parts.len() {
+        let part = parts[place];
+        if has_part(others, part) {
+            return true;
+        }
     }
+    false
 }
 
 /// One more agreement, if it is one.
@@ -38,24 +41,28 @@ fn and_agreement(
     Ok(())
 }
 
-/// Says for parts that two reads agree where a bit is 1.
+/// Says for each part of both that two reads agree where a bit is 1.
 fn agree(
     agrees: &mut Vec<Agreement>,
-    parts: Parts,
+    parts: &[u32],
+    others: &[u32],
     condition: Term,
     read: u32,
     other: u32,
 ) -> Result<(), AllocError>
-    ensures { OnOk result (agrees.new.items ≡ agrees.old.items ++ agreements_of parts condition read other) }
+    ensures { OnOk result (agrees.new.items ≡ agrees.old.items ++ agreements_of (shared parts.now others.now) condition read other) }
 {
-    let entry = Agreement {
-        condition,
-        part: 0,
-        read,
-        other,
-    };
-    and_agreement(agrees, parts.entry, entry)?;
-    and_agreement(agrees, parts.head, Agreement { part: 1, ..entry })?;
+    for place in 0..parts.len() {
+        let part = parts[place];
+        let is_both = has_part(others, part);
+        let agreement = Agreement {
+            condition,
+            part,
+            read,
+            other,
+        };
+        and_agreement(agrees, is_both, agreement)?;
+    }
     Ok(())
 }
 
@@ -63,7 +70,7 @@ fn agree(
 fn tie(
     build: &mut Build,
     sums: &[Split],
-    parts: &[Parts],
+    parts: &[Vec<u32>],
     agrees: &mut Vec<Agreement>,
     read: u32,
     other: u32,
@@ -74,16 +81,15 @@ fn tie(
     requires read { read < other }
     requires other { other < length (read_places build.old) }
     requires parts { length parts.now ≡ length (read_places build.old) }
-    requires ties { AreTies build.old parts.now agrees.old.items (Before other read) }
+    requires ties { AreTies build.old (lists_of parts.now) agrees.old.items (Before other read) }
     ensures grown { OnOk result (Grown build.old build.new 32 0) }
     ensures kept { OnOk result (KeepsParts build.old build.new) }
-    ensures ties { OnOk result (AreTies build.new parts.now agrees.new.items (Before other (read + 1))) }
+    ensures ties { OnOk result (AreTies build.new (lists_of parts.now) agrees.new.items (Before other (read + 1))) }
 {
     if is_apart(sums[read as usize], sums[other as usize], 1) {
         return Ok(());
     }
-    let shared = both(parts[read as usize], parts[other as usize]);
-    if shared.is_none() {
+    if !is_shared(&parts[read as usize], &parts[other as usize]) {
         return Ok(());
     }
     let left = build.addresses[read as usize];
@@ -94,7 +100,14 @@ fn tie(
         left,
         right,
     })?;
-    agree(agrees, shared, condition, read, other)?;
+    agree(
+        agrees,
+        &parts[read as usize],
+        &parts[other as usize],
+        condition,
+        read,
+        other,
+    )?;
     Ok(())
 }
 
@@ -102,7 +115,7 @@ fn tie(
 fn row(
     build: &mut Build,
     sums: &[Split],
-    parts: &[Parts],
+    parts: &[Vec<u32>],
     agrees: &mut Vec<Agreement>,
     other: u32,
 ) -> Result<(), AllocError>
@@ -111,10 +124,10 @@ fn row(
     requires sums { AreSums build.old sums.now }
     requires other { other < length (read_places build.old) }
     requires parts { length parts.now ≡ length (read_places build.old) }
-    requires ties { AreTies build.old parts.now agrees.old.items (Before other 0) }
+    requires ties { AreTies build.old (lists_of parts.now) agrees.old.items (Before other 0) }
     ensures grown { OnOk result (Grown build.old build.new (32 * other) 0) }
     ensures kept { OnOk result (KeepsParts build.old build.new) }
-    ensures ties { OnOk result (AreTies build.new parts.now agrees.new.items (Before (other + 1) 0)) }
+    ensures ties { OnOk result (AreTies build.new (lists_of parts.now) agrees.new.items (Before (other + 1) 0)) }
 {
     for read in 0..other {
         tie(build, sums, parts, agrees, read, other)?;
@@ -141,13 +154,13 @@ fn sums_of(alloc: Global, build: &Build, zero: Term) -> Result<Vec<Split>, Alloc
 pub fn agreements(
     build: &mut Build,
     alloc: Global,
-    parts: &[Parts],
+    parts: &[Vec<u32>],
 ) -> Result<Vec<Agreement>, AllocError>
     requires built { IsBuilt build.old }
     requires parts { length parts.now ≡ length (read_places build.old) }
     ensures grown { OnOk result (Grown build.old build.new (16 * (length (read_places build.old) * (length (read_places build.old) - 1))) 0) }
     ensures kept { OnOk result (KeepsParts build.old build.new) }
-    ensures ties { IfOk result (λ t. AreTies build.new parts.now t.items (Before (length (read_places build.new)) 0)) }
+    ensures ties { IfOk result (λ t. AreTies build.new (lists_of parts.now) t.items (Before (length (read_places build.new)) 0)) }
 {
     let zero = build.make(Node::Constant {
         width: 32,

@@ -1,6 +1,6 @@
 -- The order of points in scripts is that of lists of numbers.
 use Rattle.std.proofs.Common.{◌≡◌, ℕ, refl, ap, sym, ◌∙◌, arith, Bool, true, false, List, [], ◌∷◌, length, is_lt}
-use Rattle.std.specs.Prelude.{◌==◌, ◌&&◌, ◌||◌, nat_lt}
+use Rattle.std.specs.Prelude.{◌==◌, ◌&&◌, ◌||◌, not, nat_lt}
 use Rattle.std.specs.Cmp.Lexicographic.{slice_cmp}
 use Rattle.std.specs.Ordering.{nat_cmp, ordering_then, ordering_reverse}
 use Rattle.std.specs.Str.{bytes_eq}
@@ -9,10 +9,11 @@ use Rattle.std.specs.declared.cmp.Ordering.TheVariants.{Less, Equal, Greater}
 use Rattle.std.proofs.lemmas.Bool.Decides.{nat_tests}
 use Rattle.std.proofs.lemmas.Cmp.{nat_list_cmp_total, tied_itself}
 use Rattle.std.proofs.lemmas.Map.Lookups.{exact_bytes}
+use Rattle.word_spec.specs.Words.{bit}
 use Rattle.bilv_spec.specs.Scripts.{is_below_from_end, is_stack_below}
 use Rattle.frame_spec.specs.FramePoints.{Anchor, AtEntry, AtHead, Point}
 use Rattle.frame_spec.specs.FrameScripts.{is_anchor_below, is_frame_point_below, is_same_anchor}
-use Rattle.smtlib_print.specs.Orders.{anchor_key, from_bottom, point_key, point_order, spot_key, spot_order}
+use Rattle.smtlib_print.specs.Orders.{anchor_key, from_bottom, point_key, point_order, spot_key}
 
 -- numbers in order, the first ones deciding
 first_decides : (a b : ℕ) (o : Ordering) → is_lt (ordering_then (nat_cmp a b) o) ≡ (nat_lt a b || ((a == b) && is_lt o))
@@ -101,19 +102,25 @@ anchor_decides AtEntry (AtHead t b) u v = refl
 anchor_decides (AtHead s a) AtEntry u v = refl
 anchor_decides (AtHead s a) (AtHead t b) u v = spot_decides s a t b u v
 
-and_nothing : (p q : Bool) → (p || (q && false)) ≡ p
-and_nothing true q = refl
-and_nothing false true = refl
-and_nothing false false = refl
+contract_decides : (b c : Bool) → is_lt (slice_cmp nat_cmp (bit b ∷ []) (bit c ∷ [])) ≡ (not b && c)
+contract_decides false false = refl
+contract_decides false true = refl
+contract_decides true false = refl
+contract_decides true true = refl
 
 -- the order of scripts is that of keys
 pub order_is : (x y : Point) → is_lt (point_order x y) ≡ is_frame_point_below x y
 order_is x y =
-    anchor_decides x.anchor y.anchor (x.turns ∷ spot_key x.stack x.at []) (y.turns ∷ spot_key y.stack y.at [])
+    let u = bit x.contract ∷ [] in
+    let v = bit y.contract ∷ [] in
+    let below = spot_below x.stack x.at y.stack y.at in
+    let same = same_spot x.stack x.at y.stack y.at in
+    anchor_decides x.anchor y.anchor (x.turns ∷ spot_key x.stack x.at u) (y.turns ∷ spot_key y.stack y.at v)
     ∙ ap (λ z. is_anchor_below x.anchor y.anchor || (is_same_anchor x.anchor y.anchor && z))
-    (first_decides x.turns y.turns (spot_order x.stack x.at y.stack y.at)
+    (first_decides x.turns y.turns (slice_cmp nat_cmp (spot_key x.stack x.at u) (spot_key y.stack y.at v))
     ∙ ap (λ z. nat_lt x.turns y.turns || ((x.turns == y.turns) && z))
-    (spot_decides x.stack x.at y.stack y.at [] [] ∙ and_nothing (spot_below x.stack x.at y.stack y.at) (same_spot x.stack x.at y.stack y.at)))
+    (spot_decides x.stack x.at y.stack y.at u v ∙ ap (λ z. below || (same && z)) (contract_decides x.contract y.contract))
+    ∙ equal_by (nat_lt x.turns y.turns) (x.turns == y.turns) below same (not x.contract && y.contract))
 
 -- no point is below itself
 pub frame_point_itself : (q : Point) → is_frame_point_below q q ≡ false
@@ -150,21 +157,30 @@ anchors_same (AtHead s a) (AtHead t b) u v e =
 abbrev made : Anchor → (turns : ℕ) → Bool → (stack : List ℕ) → (at : ℕ) → Point
 made anchor turns contract stack at = record { anchor = anchor; turns = turns; contract = contract; stack = stack; at = at }
 
-keys_same : (x y : Point) → x.contract ≡ y.contract → point_key x ≡ point_key y → x ≡ y
-keys_same x y c e =
-    let q = anchors_same x.anchor y.anchor (x.turns ∷ spot_key x.stack x.at []) (y.turns ∷ spot_key y.stack y.at []) e in
-    let t = heads x.turns y.turns (spot_key x.stack x.at []) (spot_key y.stack y.at []) q.1 in
-    let p = spots_same x.stack x.at y.stack y.at [] [] t.1 in
+contracts_same : (b c : Bool) → bit b ≡ bit c → b ≡ c
+contracts_same false false e = refl
+contracts_same false true e = absurd (omega (arith, e))
+contracts_same true false e = absurd (omega (arith, e))
+contracts_same true true e = refl
+
+keys_same : (x y : Point) → point_key x ≡ point_key y → x ≡ y
+keys_same x y e =
+    let u = bit x.contract ∷ [] in
+    let v = bit y.contract ∷ [] in
+    let q = anchors_same x.anchor y.anchor (x.turns ∷ spot_key x.stack x.at u) (y.turns ∷ spot_key y.stack y.at v) e in
+    let t = heads x.turns y.turns (spot_key x.stack x.at u) (spot_key y.stack y.at v) q.1 in
+    let p = spots_same x.stack x.at y.stack y.at u v t.1 in
+    let c = contracts_same x.contract y.contract (heads (bit x.contract) (bit y.contract) [] [] p.2).0 in
     ap (λ z. made z x.turns x.contract x.stack x.at) q.0 ∙ ap (λ z. made y.anchor z x.contract x.stack x.at) t.0
     ∙ ap (λ z. made y.anchor y.turns z x.stack x.at) c ∙ ap (λ z. made y.anchor y.turns y.contract z x.at) p.0
     ∙ ap (λ z. made y.anchor y.turns y.contract y.stack z) p.1
 
 -- a point that is not above another one, and is not that one, is below it
-pub below_by_order : (x y : Point) → x.contract ≡ y.contract → is_lt (point_order y x) ≡ false → (x ≡ y → ⊥) → is_frame_point_below x y ≡ true
-below_by_order x y c h other = by (point_order x y) refl
+pub below_by_order : (x y : Point) → is_lt (point_order y x) ≡ false → (x ≡ y → ⊥) → is_frame_point_below x y ≡ true
+below_by_order x y h other = by (point_order x y) refl
   where
     by : (o : Ordering) → point_order x y ≡ o → is_frame_point_below x y ≡ true
     by Less e = sym (order_is x y) ∙ ap is_lt e
-    by Equal e = absurd (other (keys_same x y c (exact_bytes (point_key x) (point_key y) e)))
+    by Equal e = absurd (other (keys_same x y (exact_bytes (point_key x) (point_key y) e)))
     by Greater e = absurd (let t : true ≡ false = sym (ap (λ o. is_lt (ordering_reverse o)) e)
         ∙ sym (ap is_lt (nat_list_cmp_total.antisymm (point_key y) (point_key x))) ∙ h in cc)

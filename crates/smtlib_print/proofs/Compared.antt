@@ -1,11 +1,12 @@
 -- Points are compared as their keys, and stacks from the bottom.
-use Rattle.std.proofs.Common.{◌≡◌, ℕ, suc, refl, ap, sym, ◌∙◌, arith, List, [], ◌∷◌, length}
+use Rattle.std.proofs.Common.{◌≡◌, ℕ, suc, refl, ap, sym, ◌∙◌, arith, Bool, true, false, List, [], ◌∷◌, length}
 use Rattle.std.specs.Cmp.Lexicographic.{slice_cmp}
-use Rattle.std.specs.Ordering.{nat_cmp, ordering_then}
+use Rattle.std.specs.Ordering.{bool_cmp, nat_cmp, ordering_then}
 use Rattle.std.specs.declared.cmp.Ordering.{Ordering}
 use Rattle.std.specs.declared.cmp.Ordering.TheVariants.{Less, Equal, Greater}
 use Rattle.std.proofs.lemmas.Bool.Decides.{nat_tests}
 use Rattle.std.proofs.lemmas.Cmp.{nat_list_cmp_total, tied_itself}
+use Rattle.word_spec.specs.Words.{bit}
 use Rattle.frame_spec.specs.FramePoints.{Anchor, AtEntry, AtHead, Point}
 use Rattle.smtlib_print.specs.Orders.{anchor_key, anchor_order, from_bottom, point_order, spot_key, spot_order, stack_order}
 
@@ -68,12 +69,26 @@ anchor_then AtEntry (AtHead t b) u v = refl
 anchor_then (AtHead s a) AtEntry u v = refl
 anchor_then (AtHead s a) (AtHead t b) u v = spot_then s a t b u v
 
+-- where one of two points has a contract step, it comes behind
+contracts_compared : (b c : Bool) → slice_cmp nat_cmp (bit b ∷ []) (bit c ∷ []) ≡ bool_cmp b c
+contracts_compared false false = refl
+contracts_compared false true = refl
+contracts_compared true false = refl
+contracts_compared true true = refl
+
+-- the order of where two points stand and of their contract steps
+abbrev pub place_order : Point → Point → Ordering
+place_order x y = ordering_then (spot_order x.stack x.at y.stack y.at) (bool_cmp x.contract y.contract)
+
 -- and points by their anchors, then by their backward transfers, and then by where they stand
 pub points_then : (x y : Point) →
-    point_order x y ≡ ordering_then (ordering_then (anchor_order x.anchor y.anchor) (nat_cmp x.turns y.turns)) (spot_order x.stack x.at y.stack y.at)
+    point_order x y ≡ ordering_then (ordering_then (anchor_order x.anchor y.anchor) (nat_cmp x.turns y.turns)) (place_order x y)
 points_then x y =
-    anchor_then x.anchor y.anchor (x.turns ∷ spot_key x.stack x.at []) (y.turns ∷ spot_key y.stack y.at [])
-    ∙ sym (then_then (anchor_order x.anchor y.anchor) (nat_cmp x.turns y.turns) (spot_order x.stack x.at y.stack y.at))
+    anchor_then x.anchor y.anchor (x.turns ∷ spot_key x.stack x.at (bit x.contract ∷ [])) (y.turns ∷ spot_key y.stack y.at (bit y.contract ∷ []))
+    ∙ ap (λ z. ordering_then (anchor_order x.anchor y.anchor) (ordering_then (nat_cmp x.turns y.turns) z))
+    (spot_then x.stack x.at y.stack y.at (bit x.contract ∷ []) (bit y.contract ∷ [])
+    ∙ ap (λ z. ordering_then (spot_order x.stack x.at y.stack y.at) z) (contracts_compared x.contract y.contract))
+    ∙ sym (then_then (anchor_order x.anchor y.anchor) (nat_cmp x.turns y.turns) (place_order x y))
 
 -- where stacks have as many addresses, they and the addresses decide
 pub stacks_decide : (s : List ℕ) (a : ℕ) (t : List ℕ) (b : ℕ) → nat_cmp (length s) (length t) ≡ Equal →
@@ -100,10 +115,10 @@ both_orders x y o anchors turns e f g =
     e ∙ ap (λ z. ordering_then z turns) f ∙ ap (λ z. ordering_then (anchor_order x.anchor y.anchor) z) g
 
 -- where neither anchors nor backward transfers decide, what follows does
-pub points_decide : (x y : Point) (o anchors turns spot : Ordering) → o ≡ ordering_then anchors turns → anchors ≡ anchor_order x.anchor y.anchor →
-    turns ≡ nat_cmp x.turns y.turns → o ≡ Equal → spot ≡ spot_order x.stack x.at y.stack y.at → spot ≡ point_order x y
-points_decide x y o anchors turns spot e f g is h =
-    h ∙ sym (points_then x y ∙ ap (λ z. ordering_then z (spot_order x.stack x.at y.stack y.at)) (sym (both_orders x y o anchors turns e f g) ∙ is))
+pub points_decide : (x y : Point) (o anchors turns place : Ordering) → o ≡ ordering_then anchors turns → anchors ≡ anchor_order x.anchor y.anchor →
+    turns ≡ nat_cmp x.turns y.turns → o ≡ Equal → place ≡ place_order x y → place ≡ point_order x y
+points_decide x y o anchors turns place e f g is h =
+    h ∙ sym (points_then x y ∙ ap (λ z. ordering_then z (place_order x y)) (sym (both_orders x y o anchors turns e f g) ∙ is))
 
 decided : (o all : Ordering) → (o ≡ Equal → ⊥) → o ≡ ordering_then o all
 decided Less all other = refl
@@ -114,8 +129,8 @@ decided Greater all other = refl
 pub points_settle : (x y : Point) (o anchors turns : Ordering) → o ≡ ordering_then anchors turns → anchors ≡ anchor_order x.anchor y.anchor →
     turns ≡ nat_cmp x.turns y.turns → (o ≡ Equal → ⊥) → o ≡ point_order x y
 points_settle x y o anchors turns e f g other =
-    decided o (spot_order x.stack x.at y.stack y.at) other
-    ∙ ap (λ z. ordering_then z (spot_order x.stack x.at y.stack y.at)) (both_orders x y o anchors turns e f g) ∙ sym (points_then x y)
+    decided o (place_order x y) other
+    ∙ ap (λ z. ordering_then z (place_order x y)) (both_orders x y o anchors turns e f g) ∙ sym (points_then x y)
 
 -- stacks and addresses, each as another
 pub spots_are : (s s' : List ℕ) (a a' : ℕ) (t t' : List ℕ) (b b' : ℕ) → s ≡ s' → a ≡ a' → t ≡ t' → b ≡ b' → spot_order s a t b ≡ spot_order s' a' t' b'

@@ -1,5 +1,5 @@
 -- Constants have their values.
-use Rattle.std.proofs.Common.{◌≡◌, ℕ, zero, suc, ◌+◌, ◌*◌, ◌/◌, ◌%◌, ◌^◌, ◌<◌, refl, ap, sym, subst, ◌∙◌, arith, true, false, Bool, List, [], ◌∷◌, ◌++◌, Option, Some, None, length, length-append}
+use Rattle.std.proofs.Common.{◌≡◌, ℕ, zero, suc, ◌+◌, ◌*◌, ◌/◌, ◌%◌, ◌^◌, ◌<◌, refl, ap, mul_assoc, sym, subst, ◌∙◌, arith, true, false, Bool, List, [], ◌∷◌, ◌++◌, Option, Some, None, length, length-append}
 use Rattle.std.specs.Prelude.{◌==◌, ◌&&◌, codes, if◌then◌else◌}
 use Rattle.std.specs.List.{list_all}
 use Rattle.std.specs.Char.{digit_value}
@@ -8,7 +8,7 @@ use Rattle.std.proofs.lemmas.Bool.Decides.{nat_tests}
 use Rattle.std.proofs.lemmas.Int.Digits.{digits_value_push}
 use Rattle.std.proofs.lemmas.List.Folds.{list_all-append}
 use Rattle.std.proofs.lemmas.Nat.{pow-add}
-use Rattle.word_spec.specs.Texts.{hex_digits, is_hex_digit}
+use Rattle.word_spec.specs.Texts.{hex_digit, hex_digits, is_hex_digit}
 use Rattle.bilv_spec.specs.SmtLib.{SmtValue, WordValue, atom_value, constant_of, is_binary_digit}
 use Rattle.machine_spec.proofs.Spelling.{hex_back, hex_length}
 use Rattle.smtlib_print.specs.Commands.{binary_digits, constant_text}
@@ -48,6 +48,16 @@ hex_constant symbols k v s h =
     let t = hex_told k v h in
     let c = digits_constant (hex_digits k v) (omega (arith, hex_length k v)) t.0 in
     rw c (ap (λ z. Some (WordValue (4 * z) (digits_value 16 (hex_digits k v)))) (hex_length k v) ∙ ap (λ z. Some (WordValue (4 * k) z)) t.1)
+
+-- numbers that differ by a multiple of what the digits can tell have the same digits
+pub same_digits : (k u v q : ℕ) → u ≡ v + q * 16 ^ k → hex_digits k u ≡ hex_digits k v
+same_digits zero u v q e = refl
+same_digits (suc k) u v q e =
+    let p : 16 ^ suc k ≡ 16 ^ k * 16 = omega arith in
+    let m : q * 16 ^ suc k ≡ q * 16 ^ k * 16 = ap (λ z. q * z) p ∙ sym (mul_assoc q (16 ^ k) 16) in
+    let a : u / 16 ≡ v / 16 + q * 16 ^ k = omega (arith, e, m) in
+    let b : u % 16 ≡ v % 16 = omega (arith, e, m) in
+    ap (λ l. l ++ hex_digit (u % 16) ∷ []) (same_digits k (u / 16) (v / 16) q a) ∙ ap (λ d. hex_digits k (v / 16) ++ hex_digit d ∷ []) b
 
 -- binary digits
 binary_length : (n v : ℕ) → length (binary_digits n v) ≡ n

@@ -14,7 +14,7 @@ use Rattle.term_spec.specs.Terms.{TermReading, InRange, TermValue, TermNode, wor
 use Rattle.term_dag.proofs.ListLaws.{keeps, keeps_node, last, longer, length_values, values_append, typed_push}
 use Rattle.term_dag.proofs.Ranges.{term_fits}
 use Rattle.term_dag.proofs.Shapes.{few_bits}
-use Rattle.smtlib_print.specs.Commands.{memory_name, part_name, term_name, definition, sort_of, node_term, node_definitions}
+use Rattle.smtlib_print.specs.Commands.{memory_in, name_in, term_name, definition, sort_of, node_term, node_definitions}
 use Rattle.smtlib_print.specs.Written.{before}
 use Rattle.smtlib_print.proofs.Names.{is_symbol, other_term, symbol_value}
 use Rattle.smtlib_print.proofs.NodeValues.{IsValue, Knows, HasInput, says}
@@ -111,13 +111,13 @@ pub record IsNamed (model : List ℕ → Option SmtValue) (names : List (List �
 -- an input has a name with its value
 abbrev pub IsInputOf : (model : List ℕ → Option SmtValue) → (names : List (List ℕ)) → Layout → (numbers : List ℕ) → TermReading → TermNode → Type 0
 IsInputOf model names layout numbers x (terms.RegisterNode p r) =
-    IsNamed model names (part_name p (slice_index_or layout.registers (r - layout.first) [])) (WordValue 32 (x.regs p r))
+    IsNamed model names (name_in numbers p (slice_index_or layout.registers (r - layout.first) [])) (WordValue 32 (x.regs p r))
 IsInputOf model names layout numbers x (terms.FlagNode p f) =
-    IsNamed model names (part_name p (slice_index_or layout.flags (length layout.flags - 1 - f) [])) (WordValue 1 (x.flags p f))
+    IsNamed model names (name_in numbers p (slice_index_or layout.flags (length layout.flags - 1 - f) [])) (WordValue 1 (x.flags p f))
 IsInputOf model names layout numbers x (terms.ChoiceNode i) = IsNamed model names (choice_name (slice_index numbers i)) (WordValue 2 (x.choice i))
 IsInputOf model names layout numbers x (terms.BaseNode p j) = x.base p j ≡ 0
-IsInputOf model names layout numbers x (terms.MemoryNode p) = IsNamed model names (memory_name p) (ArrayValue (x.mem p))
-IsInputOf model names layout numbers x (terms.TakeNode n m a p) = ⊥
+IsInputOf model names layout numbers x (terms.MemoryNode p) = IsNamed model names (memory_in numbers p) (ArrayValue (x.mem p))
+IsInputOf model names layout numbers x (terms.TakeNode n m a p) = IsNamed model names (memory_in numbers p) (ArrayValue (x.mem p))
 IsInputOf model names layout numbers x n = Unit {0}
 
 -- so have the inputs of a list
@@ -157,7 +157,7 @@ module _ (model : List ℕ → Option SmtValue) (names : List (List ℕ)) (layou
   has_input symbols upto (terms.LoadNode n e m a) s i = tt
   has_input symbols upto (terms.StoreNode n e m a v) s i = tt
   has_input symbols upto (terms.JoinNode c a b) s i = tt
-  has_input symbols upto (terms.TakeNode n m a p) s i = absurd i
+  has_input symbols upto (terms.TakeNode n m a p) s i = named_value model symbols names upto _ _ s i
 
   node_sorted : (symbols : List ℕ → Option SmtValue) (bs : List TermNode) (n : TermNode) (upto : ℕ) → length bs < 2 ^ 64 → AreTyped bs →
       terms.IsTypedOver bs n → Knows symbols x bs →

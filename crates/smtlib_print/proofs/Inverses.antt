@@ -1,5 +1,5 @@
 -- The numbers of places are written one by one.
-use Rattle.std.proofs.Common.{◌≡◌, ℕ, ◌+◌, ◌<◌, ◌⊎◌, ap, sym, ◌∙◌, subst, arith, None, List, length, inl, inr, get_or}
+use Rattle.std.proofs.Common.{◌≡◌, ℕ, ◌+◌, ◌<◌, ◌⊎◌, ap, sym, ◌∙◌, subst, arith, false, None, List, length, inl, inr, get_or}
 use Rattle.std.specs.Prelude.{slice_index, slice_set}
 use Rattle.std.proofs.lemmas.Bool.{cases_order}
 use Rattle.std.proofs.lemmas.List.{get_or_default, get_or-set_same, get_or-set_other, length-set}
@@ -16,7 +16,7 @@ pub record AreInverseTo (order : List Placed) (n : ℕ) (numbers : List ℕ) : T
   pub each : (i : ℕ) (d : Placed) → i < n → HasNumber order numbers (get_or order i d).place
 
 abbrev pub no_place : Placed
-no_place = record { root = None; turns = 0; stack = 0; at = 0; place = 0 }
+no_place = record { root = None; turns = 0; stack = 0; at = 0; contract = false; place = 0 }
 
 -- a number is written at a place: it is the place's own, and another place keeps its number
 written_at : (order : List Placed) (n p q : ℕ) (numbers : List ℕ) → length numbers ≡ length order → n < length order → p < length order →

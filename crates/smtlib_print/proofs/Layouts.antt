@@ -4,6 +4,7 @@ use Rattle.std.specs.Prelude.{◌==◌, ◌&&◌, ◌||◌, not, codes, if◌the
 use Rattle.std.specs.List.{list_all}
 use Rattle.std.specs.Option.{option_map}
 use Rattle.std.specs.Str.{bytes_eq}
+use Rattle.std.proofs.lemmas.Bool.Decides.{nat_tests}
 use Rattle.std.proofs.lemmas.List.{get_or-map, length-map}
 use Rattle.std.proofs.lemmas.List.Folds.{list_all-append}
 use Rattle.frame_spec.specs.FrameScripts.{of_head}
@@ -40,6 +41,11 @@ abbrev pub is_headed : List ℕ → Bool
 is_headed [] = false
 is_headed (b ∷ w) = b == 104
 
+-- the first letter is that of the symbols of what contract steps are given
+abbrev pub is_gifted : List ℕ → Bool
+is_gifted [] = false
+is_gifted (b ∷ w) = b == 103
+
 -- a name that can be a symbol beside those of terms and choices
 abbrev pub is_fixed : List ℕ → Bool
 is_fixed w = is_symbol w && (is_word w && not (is_lettered w))
@@ -64,6 +70,8 @@ pub record IsUsable (layout : Layout) : Type 0 where
   pub distinct : are_distinct (value_names layout) ≡ true
   pub fixed : (heads : Bool) → list_all is_fixed (fixed_names layout heads) ≡ true
   pub new : (heads : Bool) → are_new [] (fixed_names layout heads) ≡ true
+  pub own_ungiven : list_all (λ w. not (is_gifted w)) (value_names layout) ≡ true
+  pub ungiven : (heads : Bool) → list_all (λ w. not (is_gifted w)) (fixed_names layout heads) ≡ true
 
 rv_fixed : (compressed heads : Bool) → list_all is_fixed (fixed_names (rv_layout compressed) heads) ≡ true
 unfolding digits
@@ -75,9 +83,22 @@ unfolding digits
 rv_new compressed false = refl
 rv_new compressed true = refl
 
+rv_ungiven : (compressed heads : Bool) → list_all (λ w. not (is_gifted w)) (fixed_names (rv_layout compressed) heads) ≡ true
+unfolding digits
+rv_ungiven compressed false = refl
+rv_ungiven compressed true = refl
+
 pub rv_usable : (compressed : Bool) → IsUsable (rv_layout compressed)
 unfolding digits
-rv_usable compressed = record { own = refl; bare = refl; distinct = refl; fixed = rv_fixed compressed; new = rv_new compressed }
+rv_usable compressed = record {
+  own = refl;
+  bare = refl;
+  distinct = refl;
+  fixed = rv_fixed compressed;
+  new = rv_new compressed;
+  own_ungiven = refl;
+  ungiven = rv_ungiven compressed;
+}
 
 arm_fixed : (e : Endian) (profile : Profile) (heads : Bool) → list_all is_fixed (fixed_names (arm_layout e profile) heads) ≡ true
 unfolding digits
@@ -89,9 +110,23 @@ unfolding digits
 arm_new e profile false = refl
 arm_new e profile true = refl
 
+arm_ungiven : (e : Endian) (profile : Profile) (heads : Bool) →
+    list_all (λ w. not (is_gifted w)) (fixed_names (arm_layout e profile) heads) ≡ true
+unfolding digits
+arm_ungiven e profile false = refl
+arm_ungiven e profile true = refl
+
 pub arm_usable : (e : Endian) (profile : Profile) → IsUsable (arm_layout e profile)
 unfolding digits
-arm_usable e profile = record { own = refl; bare = refl; distinct = refl; fixed = arm_fixed e profile; new = arm_new e profile }
+arm_usable e profile = record {
+  own = refl;
+  bare = refl;
+  distinct = refl;
+  fixed = arm_fixed e profile;
+  new = arm_new e profile;
+  own_ungiven = refl;
+  ungiven = arm_ungiven e profile;
+}
 
 pub usable_of : (form : forms.Layout) → IsUsable (layout_of form)
 usable_of (Rv32 compressed) = rv_usable compressed
@@ -172,3 +207,17 @@ part_at (suc p) names i l = get_or-map of_head names i [] [] l
 pub part_among : (p : ℕ) (names : List (List ℕ)) (i : ℕ) → i < length names → among (part_names p names) (part_name p (name_at names i)) ≡ true
 part_among p names i l =
     ap (among (part_names p names)) (sym (part_at p names i l)) ∙ among_at (part_names p names) i (let c = part_count p names in omega (arith, l, c))
+
+-- no name that begins otherwise is a symbol of what is given
+ungifted : (w n : List ℕ) → is_gifted n ≡ false → bytes_eq (103 ∷ w) n ≡ false
+ungifted w [] h = refl
+ungifted w (b ∷ n) h = rw (other b h) refl
+  where
+    other : (c : ℕ) → (c == 103) ≡ false → (103 == c) ≡ false
+    other c e = grind (arith, nat_tests)
+
+pub no_gift : (names : List (List ℕ)) (w : List ℕ) → list_all (λ n. not (is_gifted n)) names ≡ true → among names (103 ∷ w) ≡ false
+no_gift [] w h = refl
+no_gift (n ∷ ns) w h =
+    let t = both_true (not (is_gifted n)) (list_all (λ m. not (is_gifted m)) ns) h in
+    rw (ungifted w n (is_false (is_gifted n) t.0)) (no_gift ns w t.1)

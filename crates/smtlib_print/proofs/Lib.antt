@@ -38,3 +38,9 @@ pub mod FrameTelling
 pub mod Framed
 pub mod Plain
 pub mod Forms
+pub mod GivenNames
+pub mod Changed
+pub mod GivenSymbols
+pub mod GiftPlaces
+pub mod WritableGifts
+pub mod GiftTexts

@@ -1,14 +1,18 @@
 -- Loads and stores, byte by byte. A solver's memory is one of addresses below 2^32 alone.
-use Rattle.std.proofs.Common.{◌≡◌, ℕ, zero, suc, ◌+◌, ◌-◌, ◌*◌, ◌/◌, ◌%◌, ◌^◌, ◌<◌, ◌≤◌, refl, ap, add_comm, sym, ◌∙◌, arith, true, false, List, Option, Some, inl, inr}
-use Rattle.std.specs.Prelude.{◌==◌, nat_lt, nat_le, if◌then◌else◌}
+use Rattle.std.proofs.Common.{◌≡◌, ℕ, zero, suc, ◌+◌, ◌-◌, ◌*◌, ◌/◌, ◌%◌, ◌^◌, ◌<◌, ◌≤◌, refl, ap, add_comm, sym, ◌∙◌, arith, true, false, Bool, List, [], ◌∷◌, ◌++◌, Option, Some, map, inl, inr}
+use Rattle.std.specs.Prelude.{◌==◌, ◌||◌, codes, nat_eq, nat_lt, nat_le, if◌then◌else◌}
+use Rattle.std.specs.List.{list_any}
 use Rattle.std.proofs.lemmas.Bool.{cases_lt, cases_eq}
 use Rattle.std.proofs.lemmas.Bool.Decides.{nat_tests}
 use Rattle.word_spec.specs.Words as words
 use Rattle.word_spec.specs.Memory.{Memory, Endian, Little, Big, little, number, load, place, byte_of}
+use Rattle.word_spec.specs.RowFiles.{from_to}
+use Rattle.word_spec.specs.Texts.{hex_digits}
+use Rattle.term_spec.specs.Terms.{is_taken_at, take_bytes}
 use Rattle.bilv_spec.specs.SmtLib.{SmtValue, WordValue, ArrayValue, atom_value, term_value, store_byte}
 use Rattle.machine_spec.proofs.Spelling.{decimal_back}
-use Rattle.smtlib_print.specs.Commands.{term_name, behind, selected, loading, storing, extract}
-use Rattle.smtlib_print.proofs.Constants.{eight, hex_constant}
+use Rattle.smtlib_print.specs.Commands.{term_name, behind, selected, loading, storing, taking, extract}
+use Rattle.smtlib_print.proofs.Constants.{eight, hex_constant, same_digits}
 
 -- the memories are the same below 2^32
 abbrev pub SameBelow : (f g : Memory) → Type 0
@@ -72,6 +76,46 @@ store_step h g at x i z p q r e = elim (cases_eq z (words.add 32 x i)) [
       rw a (e ∙ ap (λ t. if t then at (words.sub 32 z x) else g z) b))
 ]
 
+-- one byte more is taken
+or_assoc : (a b c : Bool) → (a || (b || c)) ≡ ((a || b) || c)
+or_assoc true b c = refl
+or_assoc false b c = refl
+
+or_false : (a : Bool) → (a || false) ≡ a
+or_false true = refl
+or_false false = refl
+
+one_later : (p : ℕ → Bool) (first n : ℕ) → list_any p (from_to first (suc n)) ≡ (list_any p (from_to first n) || p (first + n))
+one_later p first zero = let z : first ≡ first + 0 = omega arith in or_false (p first) ∙ ap p z
+one_later p first (suc n) =
+    let z : first + 1 + n ≡ first + suc n = omega arith in
+    ap (λ b. p first || b) (one_later p (first + 1) n ∙ ap (λ k. list_any p (from_to (first + 1) n) || p k) z)
+    ∙ or_assoc (p first) (list_any p (from_to (first + 1) n)) (p (first + suc n))
+
+any_map : (z : ℕ) (to : ℕ → ℕ) (ns : List ℕ) → list_any (nat_eq z) (map to ns) ≡ list_any (λ i. nat_eq z (to i)) ns
+any_map z to [] = refl
+any_map z to (n ∷ ns) = ap (λ b. nat_eq z (to n) || b) (any_map z to ns)
+
+taken_more : (x i z : ℕ) → is_taken_at (suc i) x z ≡ (is_taken_at i x z || nat_eq z (words.add 32 x i))
+taken_more x i z =
+    any_map z (words.add 32 x) (from_to 0 (suc i)) ∙ one_later (λ j. nat_eq z (words.add 32 x j)) 0 i
+    ∙ ap (λ b. b || nat_eq z (words.add 32 x (0 + i))) (sym (any_map z (words.add 32 x) (from_to 0 i)))
+    ∙ (let e : 0 + i ≡ i = omega arith in ap (λ j. is_taken_at i x z || nat_eq z (words.add 32 x j)) e)
+
+picked : (here before : Bool) (new old u w : ℕ) → (here ≡ true → new ≡ u) → old ≡ (if before then u else w) →
+    (if here then new else old) ≡ (if before || here then u else w)
+picked true true new old u w f e = f refl
+picked true false new old u w f e = f refl
+picked false true new old u w f e = e
+picked false false new old u w f e = e
+
+take_step : (k g h : Memory) (x i z : ℕ) → k z ≡ take_bytes i x g h z →
+    store_byte k (words.add 32 x i) (h (words.add 32 x i)) z ≡ take_bytes (suc i) x g h z
+take_step k g h x i z e =
+    let at = words.add 32 x i in
+    let same : (z == at) ≡ true → h at ≡ h z = λ t. (let s : at ≡ z = grind (arith, nat_tests) in ap h s) in
+    picked (z == at) (is_taken_at i x z) (h at) (k z) (h z) (g z) same e ∙ ap (λ b. if b then h z else g z) (sym (taken_more x i z))
+
 none_stored : (d u w : ℕ) → w ≡ (if nat_lt d 0 then u else w)
 none_stored d u w = let a : nat_lt d 0 ≡ false = grind (arith, nat_tests) in rw a refl
 
@@ -79,6 +123,16 @@ module _ (symbols : List ℕ → Option SmtValue) (a x : ℕ) (is_address : atom
   behind_value : (i : ℕ) → i < 2 ^ 32 → term_value symbols (behind a i) ≡ Some (WordValue 32 (words.add 32 x i))
   behind_value zero h = let z : x ≡ (x + 0) % 2 ^ 32 = omega arith in is_address ∙ ap (λ z. Some (WordValue 32 z)) z
   behind_value (suc i) h = rw (is_address, hex_constant symbols 8 (suc i) (omega arith) (omega arith)) refl
+
+  -- at any distance, which counts by its lowest 32 bits
+  behind_any : (i : ℕ) → term_value symbols (behind a i) ≡ Some (WordValue 32 (words.add 32 x i))
+  behind_any zero = behind_value zero (omega arith)
+  behind_any (suc i) =
+      let r = suc i % 2 ^ 32 in
+      let d : hex_digits 8 (suc i) ≡ hex_digits 8 r = same_digits 8 (suc i) r (suc i / 2 ^ 32) (omega arith) in
+      let e : (x + r) % 2 ^ 32 ≡ (x + suc i) % 2 ^ 32 = omega arith in
+      let c = ap (λ l. atom_value symbols (codes "#x" ++ l)) d ∙ hex_constant symbols 8 r (omega arith) (omega arith) in
+      rw (is_address, c) (ap (λ z. Some (WordValue 32 z)) e)
 
   module _ (m : ℕ) (f g : Memory) (is_memory : atom_value symbols (term_name m) ≡ Some (ArrayValue f)) (same : SameBelow f g) where
     selected_value : (i : ℕ) → i < 2 ^ 32 → term_value symbols (selected m a i) ≡ Some (WordValue 8 (g (words.add 32 x i)))
@@ -109,4 +163,15 @@ module _ (symbols : List ℕ → Option SmtValue) (a x : ℕ) (is_address : atom
             store_byte before.0 (words.add 32 x i) (byte_of e n y i),
             rw (before.1, behind_value i (omega arith), byte_value symbols n v y is_value few e i (omega arith)) refl,
             λ z k. store_step before.0 g (byte_of e n y) x i z small (omega arith) k (before.2 z k),
+          )
+
+    -- the byte of another memory
+    module _ (from : List ℕ) (h : Memory) (is_from : atom_value symbols from ≡ Some (ArrayValue h)) where
+      pub taking_value : (i : ℕ) → (k : Memory) × (term_value symbols (taking from m a i) ≡ Some (ArrayValue k)) × SameBelow k (take_bytes i x g h)
+      taking_value zero = (f, is_memory, same)
+      taking_value (suc i) =
+          let before = taking_value i in (
+            store_byte before.0 (words.add 32 x i) (h (words.add 32 x i)),
+            rw (before.1, behind_any i, is_from) refl,
+            λ z k. take_step before.0 g h x i z (before.2 z k),
           )

@@ -25,7 +25,7 @@ word_of_inner : (w : List ℕ) → 0 < length w → list_all is_inner w ≡ true
 word_of_inner [] s h = absurd (omega arith)
 word_of_inner (b ∷ w) s h = h
 
-number_inner : (n : ℕ) → n < 2 ^ 64 → list_all is_inner (number_text n) ≡ true
+pub number_inner : (n : ℕ) → n < 2 ^ 64 → list_all is_inner (number_text n) ≡ true
 number_inner n h = digits_inner (decimal n) (decimal_is_IsNumeral n h).0.1
 
 -- a number is a word

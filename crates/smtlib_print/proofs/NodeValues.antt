@@ -14,9 +14,9 @@ use Rattle.term_spec.specs.Terms.{TermReading, InRange, TermValue, TermNode, Reg
 use Rattle.term_dag.proofs.Ranges.{word_fits, result_is_width}
 use Rattle.term_dag.proofs.Shapes.{few_bits}
 use Rattle.smtlib_print.specs.Commands as commands
-use Rattle.smtlib_print.specs.Commands.{memory_name, part_name, term_name, node_term}
+use Rattle.smtlib_print.specs.Commands.{memory_in, name_in, term_name, node_term}
 use Rattle.smtlib_print.proofs.Constants.{constant_value, hex_constant}
-use Rattle.smtlib_print.proofs.Memories.{SameBelow, loading_value, storing_value}
+use Rattle.smtlib_print.proofs.Memories.{SameBelow, loading_value, storing_value, taking_value}
 use Rattle.smtlib_print.proofs.Names.{term_symbol, symbol_value}
 use Rattle.smtlib_print.proofs.Operations.{operation_value}
 
@@ -38,13 +38,13 @@ pub record Knows (symbols : List ℕ → Option SmtValue) (x : TermReading) (ns 
 -- an input has its value
 abbrev pub HasInput : (symbols : List ℕ → Option SmtValue) → Layout → (numbers : List ℕ) → TermReading → TermNode → Type 0
 HasInput symbols layout numbers x (RegisterNode p r) =
-    atom_value symbols (part_name p (slice_index_or layout.registers (r - layout.first) [])) ≡ Some (WordValue 32 (x.regs p r))
+    atom_value symbols (name_in numbers p (slice_index_or layout.registers (r - layout.first) [])) ≡ Some (WordValue 32 (x.regs p r))
 HasInput symbols layout numbers x (FlagNode p f) =
-    atom_value symbols (part_name p (slice_index_or layout.flags (length layout.flags - 1 - f) [])) ≡ Some (WordValue 1 (x.flags p f))
+    atom_value symbols (name_in numbers p (slice_index_or layout.flags (length layout.flags - 1 - f) [])) ≡ Some (WordValue 1 (x.flags p f))
 HasInput symbols layout numbers x (ChoiceNode i) = atom_value symbols (choice_name (slice_index numbers i)) ≡ Some (WordValue 2 (x.choice i))
 HasInput symbols layout numbers x (BaseNode p j) = x.base p j ≡ 0
-HasInput symbols layout numbers x (MemoryNode p) = atom_value symbols (memory_name p) ≡ Some (ArrayValue (x.mem p))
-HasInput symbols layout numbers x (TakeNode n m a p) = ⊥
+HasInput symbols layout numbers x (MemoryNode p) = atom_value symbols (memory_in numbers p) ≡ Some (ArrayValue (x.mem p))
+HasInput symbols layout numbers x (TakeNode n m a p) = atom_value symbols (memory_in numbers p) ≡ Some (ArrayValue (x.mem p))
 HasInput symbols layout numbers x n = Unit {0}
 
 select_is : (c a b : ℕ) → c < 2 → (if c == 1 then a else b) ≡ select c a b
@@ -135,4 +135,8 @@ module _ (symbols : List ℕ → Option SmtValue) (layout : Layout) (numbers : L
       (rw (word_known 1 c (omega arith) h.0, f.1, g.1) refl)
       (λ z l. select_is (terms.term_word x ns c) (f.0 z) (g.0 z) (below 1 c h.0)
       ∙ ap (λ u. select (terms.term_word x ns c) u (g.0 z)) (f.2 z l) ∙ ap (select (terms.term_word x ns c) ((terms.term_value x ns a).bytes z)) (g.2 z l))
-  says (TakeNode n m a p) h i = absurd i
+  says (TakeNode n m a p) h i =
+      let f = memory_known m h.1 in
+      let s = taking_value symbols a (terms.term_word x ns a) (word_known 32 a (omega arith) h.2) (below 32 a h.2) m f.0 (terms.term_value x ns m).bytes f.1 f.2
+      (memory_in numbers p) (x.mem p) i n in
+      memory_is _ _ s.0 s.1 s.2

@@ -1,6 +1,6 @@
 -- The points of an unrolled program, as they are put into order.
-use Rattle.std.proofs.Common.{◌≡◌, ℕ, zero, suc, ◌+◌, ◌<◌, ◌^◌, ap, sym, ◌∙◌, subst, arith, false, List, [], ◌∷◌, ◌++◌, Some, length, map, refl, inl, inr, get_or}
-use Rattle.std.specs.Prelude.{slice_get, slice_index_or}
+use Rattle.std.proofs.Common.{◌≡◌, ℕ, zero, suc, ◌+◌, ◌<◌, ◌^◌, ap, sym, ◌∙◌, subst, arith, Bool, true, List, [], ◌∷◌, ◌++◌, Some, length, map, refl, inl, inr, get_or}
+use Rattle.std.specs.Prelude.{◌&&◌, slice_get, slice_index_or}
 use Rattle.std.specs.List.Sorted.{IsPermutation}
 use Rattle.std.proofs.Math.ListN.{length-append}
 use Rattle.std.proofs.lemmas.Bool.{cases_order}
@@ -16,34 +16,39 @@ use Rattle.question_form.specs.declared.unrolled.Point.{Point}
 use Rattle.question_form.specs.declared.unrolled.Root.{Root}
 use Rattle.question_form.specs.declared.unrolled.Unrolled.{Unrolled}
 use Rattle.question_form.specs.FrameViews as views
-use Rattle.question_form.specs.FrameViews.{frame_unrolled_of, no_root}
+use Rattle.question_form.specs.FrameViews.{frame_unrolled_of, is_contract, no_root}
 use Rattle.smtlib_print.specs.Numbered.{AreOnce, AreRanks}
 use Rattle.smtlib_print.specs.Orders.{AreInverse, ArePlaced, AreSorted, IsPlacedAt, point_by, points_by}
 use Rattle.smtlib_print.specs.declared.ordering.Placed.{Placed}
 use Rattle.smtlib_print.proofs.Ranked.{are_ranks}
 
 -- the point of its parts
-abbrev there : frames.Anchor → (turns : ℕ) → (stack : List ℕ) → (at : ℕ) → frames.Point
-there anchor turns stack at = record { anchor = anchor; turns = turns; contract = false; stack = stack; at = at }
+abbrev there : frames.Anchor → (turns : ℕ) → Bool → (stack : List ℕ) → (at : ℕ) → frames.Point
+there anchor turns contract stack at = record { anchor = anchor; turns = turns; contract = contract; stack = stack; at = at }
 
 -- the point at a place
-point_there : (u : Unrolled) (roots : List Root) (qs : List Point) (i : ℕ) → i < length qs → (d : Point) → d ≡ get_or qs i d →
-    slice_get (map (point_by u roots) qs) i ≡ Some (point_by u roots d)
-point_there u roots [] i l d e = absurd (omega (arith, l))
-point_there u roots (q ∷ qs) zero l d e = ap (λ x. Some (point_by u roots x)) (sym e)
-point_there u roots (q ∷ qs) (suc i) l d e = point_there u roots qs i (omega (arith, l)) d e
+point_there : (u : Unrolled) (steps : Bool) (roots : List Root) (qs : List Point) (i : ℕ) → i < length qs → (d : Point) → d ≡ get_or qs i d →
+    slice_get (map (point_by u steps roots) qs) i ≡ Some (point_by u steps roots d)
+point_there u steps roots [] i l d e = absurd (omega (arith, l))
+point_there u steps roots (q ∷ qs) zero l d e = ap (λ x. Some (point_by u steps roots x)) (sym e)
+point_there u steps roots (q ∷ qs) (suc i) l d e = point_there u steps roots qs i (omega (arith, l)) d e
 
-pub is_placed : (u : Unrolled) (roots : List Root) (i : ℕ) (d : Point) (x : Placed) → i < length u.points.items → d ≡ get_or u.points.items i d →
-    x.root ≡ (slice_index_or roots d.root no_root).head → x.turns ≡ d.turns → x.stack ≡ d.stack →
-    x.at ≡ (slice_index_or u.codes.items d.code no_code).at → x.place ≡ i → IsPlacedAt (points_by u roots) u.frames.items i x
-is_placed u roots i d x l e root turns stack at place = (
-  place,
-  point_there u roots u.points.items i l d e
-      ∙ ap Some (sym (ap (λ z. there (anchor_of (stacks_of u.frames.items) z) x.turns (stack_at u.frames.items x.stack) x.at) root
-      ∙ ap (λ z. there (anchor_of (stacks_of u.frames.items) (slice_index_or roots d.root no_root).head) z (stack_at u.frames.items x.stack) x.at) turns
-      ∙ ap (λ z. there (anchor_of (stacks_of u.frames.items) (slice_index_or roots d.root no_root).head) d.turns (stack_at u.frames.items z) x.at) stack
-      ∙ ap (λ z. there (anchor_of (stacks_of u.frames.items) (slice_index_or roots d.root no_root).head) d.turns (stack_at u.frames.items d.stack) z) at)),
-)
+pub is_placed : (u : Unrolled) (steps : Bool) (roots : List Root) (i : ℕ) (d : Point) (x : Placed) → i < length u.points.items →
+    d ≡ get_or u.points.items i d → x.root ≡ (slice_index_or roots d.root no_root).head → x.turns ≡ d.turns → x.stack ≡ d.stack →
+    x.at ≡ (slice_index_or u.codes.items d.code no_code).at → x.contract ≡ (steps && is_contract d.deed) → x.place ≡ i →
+    IsPlacedAt (points_by u steps roots) u.frames.items i x
+is_placed u steps roots i d x l e root turns stack at contract place =
+    let table = stacks_of u.frames.items in
+    let stacks = u.frames.items in
+    let head = (slice_index_or roots d.root no_root).head in (
+      place,
+      point_there u steps roots u.points.items i l d e
+          ∙ ap Some (sym (ap (λ z. there (anchor_of table z) x.turns x.contract (stack_at stacks x.stack) x.at) root
+          ∙ ap (λ z. there (anchor_of table head) z x.contract (stack_at stacks x.stack) x.at) turns
+          ∙ ap (λ z. there (anchor_of table head) d.turns z (stack_at stacks x.stack) x.at) contract
+          ∙ ap (λ z. there (anchor_of table head) d.turns (steps && is_contract d.deed) (stack_at stacks z) x.at) stack
+          ∙ ap (λ z. there (anchor_of table head) d.turns (steps && is_contract d.deed) (stack_at stacks d.stack) z) at)),
+    )
 
 -- so many points are listed
 pub record ArePlacedTo (all : List frames.Point) (table : List Frame) (n : ℕ) (xs : List Placed) : Type 0 where
@@ -73,20 +78,20 @@ placed_more all table n x xs new e is so_far =
       ];
     }
 
-pub all_placed : (u : Unrolled) (roots : List Root) (n : ℕ) (xs : List Placed) → n ≡ length u.points.items →
-    ArePlacedTo (points_by u roots) u.frames.items n xs → ArePlaced (points_by u roots) u.frames.items xs
-all_placed u roots n xs e are =
-    (are.count ∙ e ∙ sym (length-map u.points.items (point_by u roots)), λ i d l. are.each i d (omega (arith, l, are.count)))
+pub all_placed : (u : Unrolled) (steps : Bool) (roots : List Root) (n : ℕ) (xs : List Placed) → n ≡ length u.points.items →
+    ArePlacedTo (points_by u steps roots) u.frames.items n xs → ArePlaced (points_by u steps roots) u.frames.items xs
+all_placed u steps roots n xs e are =
+    (are.count ∙ e ∙ sym (length-map u.points.items (point_by u steps roots)), λ i d l. are.each i d (omega (arith, l, are.count)))
 
-module _ (u : Unrolled) (roots : List Root) (placed order read : List Placed) (are : ArePlaced (points_by u roots) u.frames.items placed)
+module _ (u : Unrolled) (steps : Bool) (roots : List Root) (placed order read : List Placed) (are : ArePlaced (points_by u steps roots) u.frames.items placed)
     (moved : IsPermutation placed order) (same : read ≡ order) where
   pub order_count : length read ≡ length u.points.items
-  order_count = ap length same ∙ length_permutation placed order moved ∙ are.0 ∙ length-map u.points.items (point_by u roots)
+  order_count = ap length same ∙ length_permutation placed order moved ∙ are.0 ∙ length-map u.points.items (point_by u steps roots)
 
   -- each is at a place of a point
   pub order_within : (i : ℕ) (d : Placed) → i < length read → (get_or read i d).place < length read
   order_within i d l =
-      let long : length placed ≡ length u.points.items = are.0 ∙ length-map u.points.items (point_by u roots) in
+      let long : length placed ≡ length u.points.items = are.0 ∙ length-map u.points.items (point_by u steps roots) in
       let all = All-permutation (λ (x : Placed). x.place < length u.points.items) placed order moved
       (λ j e m. (let q = (are.1 j e m).0 in omega (arith, q, m, long))) in
       let here = all i d (let n : length read ≡ length order = ap length same in omega (arith, l, n)) in
@@ -95,17 +100,17 @@ module _ (u : Unrolled) (roots : List Root) (placed order read : List Placed) (a
       omega (arith, here, place, order_count)
 
   -- the numbers of their places are those of the points
-  pub order_ranks : (table : List Frame) (numbers : List ℕ) → AreOnce (points_by u roots) → table ≡ u.frames.items → AreSorted table order →
-      AreInverse read numbers → length numbers ≡ length read → length read < 2 ^ 32 → AreRanks (points_by u roots) numbers
+  pub order_ranks : (table : List Frame) (numbers : List ℕ) → AreOnce (points_by u steps roots) → table ≡ u.frames.items → AreSorted table order →
+      AreInverse read numbers → length numbers ≡ length read → length read < 2 ^ 32 → AreRanks (points_by u steps roots) numbers
   order_ranks table numbers apart of sorted inverse count few =
-      are_ranks (points_by u roots) u.frames.items placed order numbers apart are moved (subst (λ (f : List Frame). AreSorted f order) of sorted)
+      are_ranks (points_by u steps roots) u.frames.items placed order numbers apart are moved (subst (λ (f : List Frame). AreSorted f order) of sorted)
       (subst (λ (xs : List Placed). AreInverse xs numbers) same inverse) (count ∙ ap length same)
       (let n : length read ≡ length order = ap length same in omega (arith, few, n))
 
 -- the points of the unrolled frame of a value
-points_are : (u : Unrolled) (qs : List Point) → map (λ q. q.point) (views.points_of u qs) ≡ map (point_by u u.roots.items) qs
+points_are : (u : Unrolled) (qs : List Point) → map (λ q. q.point) (views.points_of u qs) ≡ map (point_by u true u.roots.items) qs
 points_are u [] = refl
-points_are u (q ∷ qs) = ap (λ l. point_by u u.roots.items q ∷ l) (points_are u qs)
+points_are u (q ∷ qs) = ap (λ l. point_by u true u.roots.items q ∷ l) (points_are u qs)
 
-pub frame_points : (u : Unrolled) → map (λ q. q.point) (frame_unrolled_of u).points ≡ points_by u u.roots.items
+pub frame_points : (u : Unrolled) → map (λ q. q.point) (frame_unrolled_of u).points ≡ points_by u true u.roots.items
 frame_points u = points_are u u.points.items

@@ -1,6 +1,6 @@
 -- The numbers of the points of a program: as points of a frame they are all of the entry's segment.
-use Rattle.std.proofs.Common.{◌≡◌, ℕ, zero, suc, ◌<◌, ap, sym, ◌∙◌, subst, refl, arith, true, List, [], ◌∷◌, Some, length, map, Contains, get_or}
-use Rattle.std.specs.Prelude.{slice_get, slice_index, AllPairs}
+use Rattle.std.proofs.Common.{◌≡◌, ℕ, zero, suc, ◌<◌, ap, sym, ◌∙◌, subst, refl, arith, true, false, Bool, List, [], ◌∷◌, Some, length, map, Contains, get_or}
+use Rattle.std.specs.Prelude.{slice_get, slice_index, AllPairs, ◌&&◌, ◌||◌}
 use Rattle.std.proofs.lemmas.List.{get_or-map, length-map}
 use Rattle.std.specs.Option.{option_map}
 use Rattle.std.proofs.lemmas.Option.{slice_get_within, slice_get-get_or, slice_get-map, get_or_from_slice_get}
@@ -9,7 +9,7 @@ use Rattle.bilv_spec.specs.Scripts.{is_point_below}
 use Rattle.frame_laws.specs.HeadlessLaws.{as_point}
 use Rattle.frame_spec.specs.FramePoints as frames
 use Rattle.frame_spec.specs.FramePoints.{triple}
-use Rattle.frame_spec.specs.FrameScripts.{is_frame_point_below}
+use Rattle.frame_spec.specs.FrameScripts.{is_frame_point_below, is_same_triple}
 use Rattle.question_form.specs.declared.unrolled.Point as declared
 use Rattle.question_form.specs.declared.unrolled.Unrolled.{Unrolled}
 use Rattle.question_form.specs.Views.{points_of, unrolled_of}
@@ -29,6 +29,15 @@ some_at : {X : Type 0} (xs : List X) (i : ℕ) → i < length xs → (x : X) × 
 some_at [] i l = absurd (omega (arith, l))
 some_at (y ∷ ys) zero l = (y, refl)
 some_at (y ∷ ys) (suc i) l = some_at ys i (omega (arith, l))
+
+only_first : (a b : Bool) → (a || (b && false)) ≡ a
+only_first true b = refl
+only_first false true = refl
+only_first false false = refl
+
+-- where no contract step is made, and in the entry's segment, the order is that of the points of a program
+plain_below : (x y : Point) → is_frame_point_below (as_point x) (as_point y) ≡ is_point_below x y
+plain_below x y = only_first (is_point_below x y) (is_same_triple (as_point x) (as_point y))
 
 -- a list of some points of frames, all of the entry's segment
 module _ (all : List Point) (points : List frames.Point) (numbers : List ℕ) (are : AreRanked (map as_point all) points numbers) where
@@ -64,7 +73,7 @@ module _ (all : List Point) (points : List frames.Point) (numbers : List ℕ) (a
       ∙ are.in_order.order i j (as_point d) l n in
       ap (λ z. is_point_below z (get_or flat j d)) (get_or_from_slice_get flat i (triple x.0) d (get_map triple points i x.0 x.1))
       ∙ ap (λ z. is_point_below (triple x.0) z) (get_or_from_slice_get flat j (triple y.0) d (get_map triple points j y.0 y.1))
-      ∙ below
+      ∙ sym (plain_below (triple x.0) (triple y.0)) ∙ below
 
   flat_to : (q : Point) → Contains flat q → Contains all q
   flat_to q c =
@@ -108,15 +117,15 @@ module _ (all : List Point) (points : List frames.Point) (numbers : List ℕ) (a
       are.once i n l (y.1 ∙ ap Some (plain n y.0 y.1 ∙ ap as_point same) ∙ sym (get_map as_point all i x e))
 
 -- the points of a value as a program
-points_are : (u : Unrolled) (qs : List declared.Point) → map as_point (map (λ q. q.point) (points_of u qs)) ≡ map (point_by u []) qs
+points_are : (u : Unrolled) (qs : List declared.Point) → map as_point (map (λ q. q.point) (points_of u qs)) ≡ map (point_by u false []) qs
 points_are u [] = refl
-points_are u (q ∷ qs) = ap (λ l. point_by u [] q ∷ l) (points_are u qs)
+points_are u (q ∷ qs) = ap (λ l. point_by u false [] q ∷ l) (points_are u qs)
 
-program_points : (u : Unrolled) → map as_point (points_in (unrolled_of u)) ≡ points_by u []
+program_points : (u : Unrolled) → map as_point (points_in (unrolled_of u)) ≡ points_by u false []
 program_points u = points_are u u.points.items
 
 -- no two are one
-pub program_once : (u : Unrolled) → AreApart (unrolled_of u) → AreOnce (points_by u [])
+pub program_once : (u : Unrolled) → AreApart (unrolled_of u) → AreOnce (points_by u false [])
 program_once u apart = subst AreOnce (program_points u) (λ i j l m e.
     let all = points_in (unrolled_of u) in
     let n : j < length all = omega (arith, m, length-map all as_point) in
@@ -127,7 +136,7 @@ program_once u apart = subst AreOnce (program_points u) (λ i j l m e.
     apart i j l n (x.1 ∙ ap (λ z. Some (triple z)) s ∙ sym y.1))
 
 -- the numbers of a program
-pub program_numbers : (u : Unrolled) (numbers : List ℕ) → AreRanks (points_by u []) numbers → AreNumbersOf (unrolled_of u) numbers
+pub program_numbers : (u : Unrolled) (numbers : List ℕ) → AreRanks (points_by u false []) numbers → AreNumbersOf (unrolled_of u) numbers
 program_numbers u numbers ranks =
     let p = unrolled_of u in
     let all = points_in p in

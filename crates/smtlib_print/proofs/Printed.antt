@@ -12,7 +12,7 @@ use Rattle.state_text.proofs.Appends.{two, three, five, seven}
 use Rattle.word_spec.specs.Memory.{Endian, Little, Big, endian, place}
 use Rattle.bilv_spec.specs.SmtLib.{Sexp, Atom}
 use Rattle.word_spec.specs.Texts.{hex_digit, hex_digits, number_text}
-use Rattle.smtlib_print.specs.Commands.{binary_digits, term, address, behind, selected, loading, storing, extract, constant_text, operation, apply, word_sort, numeral, sort_of, definition, declaration, array_sort}
+use Rattle.smtlib_print.specs.Commands.{binary_digits, term, address, behind, selected, loading, storing, taken, taking, extract, constant_text, operation, apply, word_sort, numeral, sort_of, definition, declaration, array_sort}
 use Rattle.machine_spec.specs.Bil.{SignedDivide}
 use Rattle.smtlib_print.specs.Written.{three as three_of, written}
 
@@ -208,3 +208,20 @@ memory_added start first second all w e f g =
 -- a name with what a part has before it
 pub part_added : (start first all p w : List ℕ) → first ≡ start ++ p → all ≡ first ++ w → all ≡ start ++ (p ++ w)
 part_added start first all p w e f = two start first all p w e f
+
+-- the byte of a memory at a distance behind an address
+pub byte_taken : (start first second third fourth all : List ℕ) (from : List ℕ) (a i : ℕ) → first ≡ start ++ codes "(select " → second ≡ first ++ from →
+    third ≡ second ++ codes " " → fourth ≡ third ++ written (behind a i) → all ≡ fourth ++ codes ")" → all ≡ start ++ written (taken from a i)
+byte_taken start first second third fourth all from a i e f g h k =
+    five start first second third fourth all (codes "(select ") from (codes " ") (written (behind a i)) (codes ")") e f g h k
+
+-- one byte more that is taken
+pub take_more : (start first second third fourth fifth sixth all : List ℕ) (from : List ℕ) (m a i : ℕ) → i ≢ 0 → first ≡ start ++ codes "(store " →
+    second ≡ first ++ written (taking from m a (i - 1)) → third ≡ second ++ codes " " → fourth ≡ third ++ written (behind a (i - 1)) →
+    fifth ≡ fourth ++ codes " " → sixth ≡ fifth ++ written (taken from a (i - 1)) → all ≡ sixth ++ codes ")" → all ≡ start ++ written (taking from m a i)
+take_more start first second third fourth fifth sixth all from m a zero some p q r s t u w = absurd (some refl)
+take_more start first second third fourth fifth sixth all from m a (suc i) some p q r s t u w =
+    let z : suc i - 1 ≡ i = omega arith in
+    seven start first second third fourth fifth sixth all (codes "(store ") (written (taking from m a i)) (codes " ") (written (behind a i)) (codes " ")
+    (written (taken from a i)) (codes ")") p (q ∙ ap (λ j. first ++ written (taking from m a j)) z) r (s ∙ ap (λ j. third ++ written (behind a j)) z) t
+    (u ∙ ap (λ j. fifth ++ written (taken from a j)) z) w

@@ -1,11 +1,11 @@
 -- The parts of a script one after another.
 use Rattle.std.proofs.Common.{◌≡◌, ℕ, ◌∷◌, [], Bool, List, ◌++◌, length, ap, sym, ◌∙◌, append_assoc}
 use Rattle.std.specs.Prelude.{codes}
-use Rattle.bilv_spec.specs.SmtLib.{Atom}
+use Rattle.bilv_spec.specs.SmtLib.{Sexp, Atom}
 use Rattle.machine_spec.specs.StateText as texts
-use Rattle.state_text.proofs.Appends.{three, four, five}
+use Rattle.state_text.proofs.Appends.{three, five}
 use Rattle.walk_spec.specs.Unrolled.{AddressRun, ByteRun}
-use Rattle.smtlib_print.specs.Commands.{Source, all_declarations, array_sort, assertion, choices_of, declaration, declarations, definition, file_assertions, head_assertions, head_declarations, is_one, last_commands, memory_name, middle_commands, node_definitions, part_declarations, part_names, run_assertions, term, word_sort}
+use Rattle.smtlib_print.specs.Commands.{Source, all_declarations, all_given, array_sort, assertion, choices_of, declaration, declarations, definition, file_assertions, head_assertions, head_declarations, is_one, last_commands, memory_name, middle_commands, node_definitions, part_declarations, part_names, run_assertions, term, word_sort}
 use Rattle.smtlib_print.specs.Scripted.{source_text}
 use Rattle.smtlib_print.specs.Written.{commands_text, written}
 use Rattle.smtlib_print.proofs.Appended.{text-append}
@@ -23,17 +23,19 @@ part_text layout p start first second all e f g =
     ∙ ap (λ t. start ++ t) (sym (text-append rs (fs ++ ms) ∙ ap (λ t. commands_text rs ++ t) (text-append fs ms)))
 
 -- the logic and the declarations
-pub head_text : (layout : texts.Layout) (heads : Bool) (choices : List (List ℕ)) (start first second third all : List ℕ) →
+pub head_text : (layout : texts.Layout) (heads : Bool) (choices : List (List ℕ)) (gs : List Sexp) (start first second third fourth all : List ℕ) →
     first ≡ start ++ codes "(set-logic QF_ABV)\n" → second ≡ first ++ commands_text (part_declarations layout 0) →
     third ≡ second ++ commands_text (head_declarations layout heads) →
-    all ≡ third ++ commands_text (declarations (word_sort (Atom (codes "2"))) choices) →
-    all ≡ start ++ (codes "(set-logic QF_ABV)\n" ++ commands_text (all_declarations layout heads choices))
-head_text layout heads choices start first second third all e f g h =
+    fourth ≡ third ++ commands_text (declarations (word_sort (Atom (codes "2"))) choices) → all ≡ fourth ++ commands_text gs →
+    all ≡ start ++ (codes "(set-logic QF_ABV)\n" ++ commands_text (all_declarations layout heads choices gs))
+head_text layout heads choices gs start first second third fourth all e f g h i =
     let ps = part_declarations layout 0 in
     let hs = head_declarations layout heads in
     let cs = declarations (word_sort (Atom (codes "2"))) choices in
-    four start first second third all (codes "(set-logic QF_ABV)\n") (commands_text ps) (commands_text hs) (commands_text cs) e f g h
-    ∙ ap (λ t. start ++ (codes "(set-logic QF_ABV)\n" ++ t)) (sym (text-append ps (hs ++ cs) ∙ ap (λ t. commands_text ps ++ t) (text-append hs cs)))
+    five start first second third fourth all (codes "(set-logic QF_ABV)\n") (commands_text ps) (commands_text hs) (commands_text cs) (commands_text gs) e f g h
+    i
+    ∙ ap (λ t. start ++ (codes "(set-logic QF_ABV)\n" ++ t)) (sym (text-append ps (hs ++ (cs ++ gs))
+    ∙ ap (λ t. commands_text ps ++ t) (text-append hs (cs ++ gs) ∙ ap (λ t. commands_text hs ++ t) (text-append cs gs))))
 
 -- the bytes of the file
 pub file_text : (asked : Bool) (kept : List AddressRun) (known : List ByteRun) (start first all : List ℕ) →
@@ -51,13 +53,13 @@ check_text n = ap (λ t. codes "(assert t" ++ t) (sym (append_assoc n (codes ")"
 -- the text of the commands between the logic and the check
 middle_text : (s : Source) →
     commands_text (middle_commands s)
-    ≡ commands_text (all_declarations s.layout s.heads (choices_of s))
+    ≡ commands_text (all_declarations s.layout s.heads (choices_of s) (all_given s.layout s.numbers s.given))
     ++ (commands_text (node_definitions s.layout s.numbers 0 s.nodes)
     ++ (written (definition (length s.nodes) (Atom (codes "Bool")) (is_one s.root))
     ++ 10 ∷ (commands_text (file_assertions s.asks_head s.kept s.known) ++ (written (assertion (term (length s.nodes))) ++ 10 ∷ []))))
 middle_text s =
     let last = assertion (term (length s.nodes)) ∷ [] in
-    let declared = all_declarations s.layout s.heads (choices_of s) in
+    let declared = all_declarations s.layout s.heads (choices_of s) (all_given s.layout s.numbers s.given) in
     let defined = node_definitions s.layout s.numbers 0 s.nodes in
     text-append declared (defined ++ last_commands s)
     ∙ ap (λ t. commands_text declared ++ t)
@@ -78,14 +80,14 @@ parts h d n r b a c =
 
 -- the text of a script in its parts
 pub script_parts : (s : Source) (count : ℕ) (none first second third fourth all : List ℕ) → none ≡ [] → count ≡ length s.nodes →
-    first ≡ none ++ (codes "(set-logic QF_ABV)\n" ++ commands_text (all_declarations s.layout s.heads (choices_of s))) →
+    first ≡ none ++ (codes "(set-logic QF_ABV)\n" ++ commands_text (all_declarations s.layout s.heads (choices_of s) (all_given s.layout s.numbers s.given))) →
     second ≡ first ++ commands_text (node_definitions s.layout s.numbers 0 s.nodes) →
     third ≡ second ++ (written (definition count (Atom (codes "Bool")) (is_one s.root)) ++ codes "\n") →
     fourth ≡ third ++ commands_text (file_assertions s.asks_head s.kept s.known) →
     all ≡ fourth ++ (written (assertion (term count)) ++ codes "\n(check-sat)\n") →
     all ≡ source_text s
 script_parts s count none first second third fourth all z k e f g h i =
-    let declared = commands_text (all_declarations s.layout s.heads (choices_of s)) in
+    let declared = commands_text (all_declarations s.layout s.heads (choices_of s) (all_given s.layout s.numbers s.given)) in
     let defined = commands_text (node_definitions s.layout s.numbers 0 s.nodes) in
     let file = commands_text (file_assertions s.asks_head s.kept s.known) in
     five [] first second third fourth all (codes "(set-logic QF_ABV)\n" ++ declared) defined

@@ -64,7 +64,7 @@ module _ (all : List Point) (frames : List Frame) (placed order : List Placed) (
     (moved : IsPermutation placed order) (sorted : AreSorted frames order) (inverse : AreInverse order numbers) (count : length numbers ≡ length order)
     (few : length order < 2 ^ 32) where
   none : Placed
-  none = record { root = None; turns = 0; stack = 0; at = 0; place = 0 }
+  none = record { root = None; turns = 0; stack = 0; at = 0; contract = false; place = 0 }
 
   no_point : Point
   no_point = record { anchor = AtEntry; turns = 0; contract = false; stack = []; at = 0 }
@@ -129,7 +129,7 @@ module _ (all : List Point) (frames : List Frame) (placed order : List Placed) (
       let h = sorted_far (λ (x y : Placed). is_lt (placed_order frames x y)) weak order sorted i j none (omega (arith, l)) n in
       let a = here i none k in
       let b = here j none n in
-      let below = below_by_order (placed_point frames (get_or order i none)) (placed_point frames (get_or order j none)) refl h
+      let below = below_by_order (placed_point frames (get_or order i none)) (placed_point frames (get_or order j none)) h
       (λ e. apart_points (get_or order i none).place (get_or order j none).place a.0 b.0 (distinct i j l n) (a.1 ∙ ap Some e ∙ sym b.1)) in
       ap (λ x. is_frame_point_below x (get_or points j d)) (point_is i d k)
       ∙ ap (λ x. is_frame_point_below (placed_point frames (get_or order i none)) x) (point_is j d n)

@@ -11,7 +11,7 @@ use Rattle.machine_spec.specs.StateText.{Layout, value_names}
 use Rattle.term_spec.specs.Terms as terms
 use Rattle.term_spec.specs.Terms.{TermReading, InRange}
 use Rattle.word_spec.specs.Texts.{line}
-use Rattle.smtlib_print.specs.Commands.{Source, all_commands, all_declarations, choices_of, drawn, file_assertions, head_declarations, last_commands, memory_name, middle_commands, node_definitions, part_declarations, part_names, held_runs, held_head, word_sort}
+use Rattle.smtlib_print.specs.Commands.{Source, all_commands, all_declarations, all_given, choices_of, declarations, drawn, file_assertions, head_declarations, last_commands, memory_name, middle_commands, node_definitions, part_declarations, part_names, held_runs, held_head, word_sort}
 use Rattle.smtlib_print.specs.Scripted.{source_text}
 use Rattle.smtlib_print.specs.Written.{written, commands_text, before}
 use Rattle.smtlib_print.proofs.Appended.{text-append}
@@ -21,7 +21,8 @@ use Rattle.smtlib_print.proofs.Inputs.{have_words}
 use Rattle.smtlib_print.proofs.Layouts.{fixed_names, head_parts, is_fixed, part_symbols}
 use Rattle.smtlib_print.proofs.Names.{choice_word, term_word}
 use Rattle.smtlib_print.proofs.ReadBack.{IsWritable, AreWritable, AreWritable-append, read_back, ArePlain, commands_plain}
-use Rattle.smtlib_print.proofs.Sources.{HasValues, IsFormed, fixed_of, flags_fixed, registers_fixed}
+use Rattle.smtlib_print.proofs.Sources.{HasValues, IsFormed, fixed_of, flags_fixed, given_of, registers_fixed}
+use Rattle.smtlib_print.proofs.WritableGifts.{gifts_writable}
 use Rattle.smtlib_print.proofs.Symbols.{one_later, one_of, script_declares, script_defines}
 use Rattle.smtlib_print.proofs.Whole.{whole_truth}
 use Rattle.smtlib_print.proofs.Writable.{AreWords, declarations_writable, file_writable, nodes_writable, part_writable}
@@ -88,35 +89,54 @@ symbols_are layout heads choices =
     ∙ sym (append_assoc layout.registers layout.flags (codes "mem" ∷ (head_parts layout heads ++ choices)))
     ∙ ap (λ l. value_names layout ++ (codes "mem" ∷ (l ++ choices))) (head_are layout heads)
 
--- a declared symbol is that of a value, of the memory, of the head, or of a choice
-abbrev pub IsDeclared : Source → List ℕ → Type 0
-IsDeclared s w = Contains (value_names s.layout) w ⊎ ((w ≡ codes "mem") ⊎ (Contains (head_symbols s.layout s.heads) w ⊎ Contains (choices_of s) w))
+-- what is declared besides: a choice, or what is given
+abbrev others : Source → List (List ℕ)
+others s = choices_of s ++ given_of s
 
-after_memory : (s : Source) (w : List ℕ) → Contains (codes "mem" ∷ (head_symbols s.layout s.heads ++ choices_of s)) w →
-    (w ≡ codes "mem") ⊎ (Contains (head_symbols s.layout s.heads) w ⊎ Contains (choices_of s) w)
+-- a declared symbol is that of a value, of the memory, of the head, of a choice, or of what is given
+abbrev pub IsDeclared : Source → List ℕ → Type 0
+IsDeclared s w =
+    Contains (value_names s.layout) w
+    ⊎ ((w ≡ codes "mem") ⊎ (Contains (head_symbols s.layout s.heads) w ⊎ (Contains (choices_of s) w ⊎ Contains (given_of s) w)))
+
+after_head : (s : Source) (w : List ℕ) → Contains (head_symbols s.layout s.heads ++ others s) w →
+    Contains (head_symbols s.layout s.heads) w ⊎ (Contains (choices_of s) w ⊎ Contains (given_of s) w)
+after_head s w c = elim (Contains-append_cases (head_symbols s.layout s.heads) (others s) w c) [
+  | inl t ↦ inl t
+  | inr t ↦ inr (Contains-append_cases (choices_of s) (given_of s) w t)
+]
+
+after_memory : (s : Source) (w : List ℕ) → Contains (codes "mem" ∷ (head_symbols s.layout s.heads ++ others s)) w →
+    (w ≡ codes "mem") ⊎ (Contains (head_symbols s.layout s.heads) w ⊎ (Contains (choices_of s) w ⊎ Contains (given_of s) w))
 after_memory s w (zero, l, e) = inl (sym e)
-after_memory s w (suc k, l, e) = inr (Contains-append_cases (head_symbols s.layout s.heads) (choices_of s) w (k, omega (arith, l), e))
+after_memory s w (suc k, l, e) = inr (after_head s w (k, omega (arith, l), e))
 
 pub symbol_to : (s : Source) (w : List ℕ) → Contains (declared_symbols (before (all_commands (middle_commands s)) Nil)) w → IsDeclared s w
 symbol_to s w c =
-    let all = value_names s.layout ++ (codes "mem" ∷ (head_symbols s.layout s.heads ++ choices_of s)) in
-    let here : Contains all w = subst (λ (ws : List (List ℕ)). Contains ws w) (script_declares s ∙ symbols_are s.layout s.heads (choices_of s)) c in
-    elim (Contains-append_cases (value_names s.layout) (codes "mem" ∷ (head_symbols s.layout s.heads ++ choices_of s)) w here) [
+    let all = value_names s.layout ++ (codes "mem" ∷ (head_symbols s.layout s.heads ++ others s)) in
+    let here : Contains all w = subst (λ (ws : List (List ℕ)). Contains ws w) (script_declares s ∙ symbols_are s.layout s.heads (others s)) c in
+    elim (Contains-append_cases (value_names s.layout) (codes "mem" ∷ (head_symbols s.layout s.heads ++ others s)) w here) [
       | inl t ↦ inl t
       | inr t ↦ inr (after_memory s w t)
     ]
 
-in_all : (s : Source) (w : List ℕ) → IsDeclared s w → Contains (value_names s.layout ++ (codes "mem" ∷ (head_symbols s.layout s.heads ++ choices_of s))) w
+in_all : (s : Source) (w : List ℕ) → IsDeclared s w → Contains (value_names s.layout ++ (codes "mem" ∷ (head_symbols s.layout s.heads ++ others s))) w
 in_all s w (inl v) = Contains-append_left (value_names s.layout) _ w v
 in_all s w (inr (inl e)) = Contains-append_right (value_names s.layout) _ w (0, omega arith, sym e)
 in_all s w (inr (inr (inl h))) =
-    Contains-append_right (value_names s.layout) _ w (one_later (codes "mem") w _ (Contains-append_left (head_symbols s.layout s.heads) (choices_of s) w h))
-in_all s w (inr (inr (inr c))) =
-    Contains-append_right (value_names s.layout) _ w (one_later (codes "mem") w _ (Contains-append_right (head_symbols s.layout s.heads) (choices_of s) w c))
+    Contains-append_right (value_names s.layout) _ w (one_later (codes "mem") w _ (Contains-append_left (head_symbols s.layout s.heads) (others s) w h))
+in_all s w (inr (inr (inr (inl c)))) =
+    Contains-append_right (value_names s.layout) _ w
+    (one_later (codes "mem") w _ (Contains-append_right (head_symbols s.layout s.heads) (others s) w
+    (Contains-append_left (choices_of s) (given_of s) w c)))
+in_all s w (inr (inr (inr (inr g)))) =
+    Contains-append_right (value_names s.layout) _ w
+    (one_later (codes "mem") w _ (Contains-append_right (head_symbols s.layout s.heads) (others s) w
+    (Contains-append_right (choices_of s) (given_of s) w g)))
 
 pub symbol_from : (s : Source) (w : List ℕ) → IsDeclared s w → Contains (declared_symbols (before (all_commands (middle_commands s)) Nil)) w
 symbol_from s w d =
-    subst (λ (ws : List (List ℕ)). Contains ws w) (sym (script_declares s ∙ symbols_are s.layout s.heads (choices_of s))) (in_all s w d)
+    subst (λ (ws : List (List ℕ)). Contains ws w) (sym (script_declares s ∙ symbols_are s.layout s.heads (others s))) (in_all s w d)
 
 -- what it says: the bit is 1, and the memories have the bytes of the file
 pub record Says (s : Source) (x : TermReading) : Type 0 where
@@ -141,19 +161,22 @@ module _ (s : Source) (formed : IsFormed s) where
       part_writable s.layout 1 (fixed_words (part_names 1 s.layout.registers) (registers_fixed s formed 1 (of refl)))
       (fixed_words (part_names 1 s.layout.flags) (flags_fixed s formed 1 (of refl)))
 
-  declared_writable : AreWritable (all_declarations s.layout s.heads (choices_of s))
+  declared_writable : AreWritable (all_declarations s.layout s.heads (choices_of s) (all_given s.layout s.numbers s.given))
   declared_writable =
       let choice_is : IsWritable (word_sort (Atom (codes "2"))) = (refl, (refl, (refl, tt))) in
       AreWritable-append (part_declarations s.layout 0) _
       (part_writable s.layout 0 (fixed_words s.layout.registers (registers_fixed s formed 0 tt)) (fixed_words s.layout.flags (flags_fixed s formed 0 tt)))
       (AreWritable-append (head_declarations s.layout s.heads) _ (head_writable s.heads (λ e. e))
-      (declarations_writable _ (choices_of s) choice_is (drawn_words s.numbers s.draws formed.few)))
+      (AreWritable-append (declarations (word_sort (Atom (codes "2"))) (choices_of s)) _
+      (declarations_writable _ (choices_of s) choice_is (drawn_words s.numbers s.draws formed.few))
+      (gifts_writable s.layout s.numbers s.given formed.few (fixed_words s.layout.registers (registers_fixed s formed 0 tt))
+      (fixed_words s.layout.flags (flags_fixed s formed 0 tt)))))
 
   writable : AreWritable (all_commands (middle_commands s))
   writable = (
     (refl, (refl, tt)),
     AreWritable-append (middle_commands s) _
-        (AreWritable-append (all_declarations s.layout s.heads (choices_of s)) _ declared_writable
+        (AreWritable-append (all_declarations s.layout s.heads (choices_of s) (all_given s.layout s.numbers s.given)) _ declared_writable
         (AreWritable-append (node_definitions s.layout s.numbers 0 s.nodes) (last_commands s)
         (nodes_writable s.layout s.numbers [] s.nodes 0 refl (omega (arith, formed.small)) tt formed.typed (have_words s formed)) (
           (

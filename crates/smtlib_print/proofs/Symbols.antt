@@ -6,9 +6,11 @@ use Rattle.bilv_spec.specs.SmtLib.{Sexp, Atom, Nil, declared_symbols, defined_sy
 use Rattle.machine_spec.specs.StateText.{Layout}
 use Rattle.term_spec.specs.Terms.{TermNode}
 use Rattle.walk_spec.specs.Unrolled.{AddressRun, ByteRun}
-use Rattle.smtlib_print.specs.Commands.{Source, term, declaration, declarations, part_declarations, head_declarations, node_definitions, assertion, has_byte, is_of_part, byte_assertions, run_assertions, head_assertions, file_assertions, choices_of, last_commands, middle_commands, all_commands, memory_name, part_names, word_sort, array_sort}
+use Rattle.smtlib_print.specs.Commands.{Given, Source, all_given, flag_symbols, given_declarations, memory_symbols, register_symbols, term, declaration, declarations, part_declarations, head_declarations, node_definitions, assertion, has_byte, is_of_part, byte_assertions, run_assertions, head_assertions, file_assertions, choices_of, last_commands, middle_commands, all_commands, memory_name, part_names, word_sort, array_sort}
 use Rattle.smtlib_print.specs.Written.{one, two, before}
 use Rattle.smtlib_print.proofs.Declared.{before-append}
+use Rattle.smtlib_print.proofs.GivenSymbols.{all_symbols, symbols_at}
+use Rattle.smtlib_print.proofs.Sources.{given_of}
 use Rattle.smtlib_print.proofs.Layouts.{fixed_names, head_parts, part_symbols}
 
 declares_names : (sort : Sexp) (names : List (List ℕ)) (rest : Sexp) → declared_symbols (before (declarations sort names) rest) ≡ names ++ declared_symbols rest
@@ -70,8 +72,36 @@ heads_declare : (layout : Layout) (heads : Bool) (rest : Sexp) →
 heads_declare layout false rest = refl
 heads_declare layout true rest = part_declares layout 1 rest
 
--- the declared symbols of a script: those of the entry, those of the head, and choices
-pub script_declares : (s : Source) → declared_symbols (before (all_commands (middle_commands s)) Nil) ≡ fixed_names s.layout s.heads ++ choices_of s
+-- those of what is given at the point of a number, and at all places
+given_declare : (layout : Layout) (n : ℕ) (g : Given) (rest : Sexp) →
+    declared_symbols (before (given_declarations layout n g) rest) ≡ symbols_at layout n g ++ declared_symbols rest
+given_declare layout n g rest =
+    let rs = register_symbols layout n g in
+    let fs = flag_symbols layout n g in
+    let ms = memory_symbols n g in
+    let words = declarations (word_sort (Atom (codes "32"))) rs in
+    let bits = declarations (word_sort (Atom (codes "1"))) fs in
+    let arrays = declarations array_sort ms in
+    ap declared_symbols (before-append words (bits ++ arrays) rest)
+    ∙ declares_names (word_sort (Atom (codes "32"))) rs (before (bits ++ arrays) rest)
+    ∙ ap (λ l. rs ++ l) (ap declared_symbols (before-append bits arrays rest)
+    ∙ declares_names (word_sort (Atom (codes "1"))) fs (before arrays rest) ∙ ap (λ l. fs ++ l) (declares_names array_sort ms rest)
+    ∙ sym (append_assoc fs ms (declared_symbols rest)))
+    ∙ sym (append_assoc rs (fs ++ ms) (declared_symbols rest))
+
+gifts_declare : (layout : Layout) (numbers : List ℕ) (gs : List Given) (rest : Sexp) →
+    declared_symbols (before (all_given layout numbers gs) rest) ≡ all_symbols layout numbers gs ++ declared_symbols rest
+gifts_declare layout numbers [] rest = refl
+gifts_declare layout [] (g ∷ gs) rest = refl
+gifts_declare layout (n ∷ ns) (g ∷ gs) rest =
+    ap declared_symbols (before-append (given_declarations layout n g) (all_given layout ns gs) rest)
+    ∙ given_declare layout n g (before (all_given layout ns gs) rest)
+    ∙ ap (λ l. symbols_at layout n g ++ l) (gifts_declare layout ns gs rest)
+    ∙ sym (append_assoc (symbols_at layout n g) (all_symbols layout ns gs) (declared_symbols rest))
+
+-- the declared symbols of a script: those of the entry, those of the head, choices, and what is given
+pub script_declares : (s : Source) →
+    declared_symbols (before (all_commands (middle_commands s)) Nil) ≡ fixed_names s.layout s.heads ++ (choices_of s ++ given_of s)
 script_declares s =
     let check = one (Atom (codes "check-sat")) in
     let n = length s.nodes in
@@ -82,18 +112,21 @@ script_declares s =
     let ps = part_declarations s.layout 0 in
     let hs = head_declarations s.layout s.heads in
     let cs = declarations (word_sort (Atom (codes "2"))) (choices_of s) in
+    let gs = all_given s.layout s.numbers s.given in
     let rest = before (defined ++ says) (one check) in
     let nothing : declared_symbols rest ≡ [] =
     ap declared_symbols (before-append defined says (one check)) ∙ nodes_declare s.layout s.numbers 0 s.nodes (before says (one check))
     ∙ ap declared_symbols (before-append file (last ∷ []) (one check)) ∙ file_declares s.asks_head s.kept s.known (two last check) in
-    ap declared_symbols (before-append ((ps ++ (hs ++ cs)) ++ (defined ++ says)) (check ∷ []) Nil)
-    ∙ ap declared_symbols (before-append (ps ++ (hs ++ cs)) (defined ++ says) (one check))
-    ∙ ap declared_symbols (before-append ps (hs ++ cs) rest) ∙ part_declares s.layout 0 (before (hs ++ cs) rest)
+    ap declared_symbols (before-append ((ps ++ (hs ++ (cs ++ gs))) ++ (defined ++ says)) (check ∷ []) Nil)
+    ∙ ap declared_symbols (before-append (ps ++ (hs ++ (cs ++ gs))) (defined ++ says) (one check))
+    ∙ ap declared_symbols (before-append ps (hs ++ (cs ++ gs)) rest) ∙ part_declares s.layout 0 (before (hs ++ (cs ++ gs)) rest)
     ∙ ap (λ l. part_symbols s.layout 0 ++ l)
-    (ap declared_symbols (before-append hs cs rest) ∙ heads_declare s.layout s.heads (before cs rest)
+    (ap declared_symbols (before-append hs (cs ++ gs) rest) ∙ heads_declare s.layout s.heads (before (cs ++ gs) rest)
     ∙ ap (λ l. head_parts s.layout s.heads ++ l)
-    (declares_names (word_sort (Atom (codes "2"))) (choices_of s) rest ∙ ap (λ l. choices_of s ++ l) nothing ∙ append-nil (choices_of s)))
-    ∙ sym (append_assoc (part_symbols s.layout 0) (head_parts s.layout s.heads) (choices_of s))
+    (ap declared_symbols (before-append cs gs rest) ∙ declares_names (word_sort (Atom (codes "2"))) (choices_of s) (before gs rest)
+    ∙ ap (λ l. choices_of s ++ l)
+    (gifts_declare s.layout s.numbers s.given rest ∙ ap (λ l. given_of s ++ l) nothing ∙ append-nil (given_of s))))
+    ∙ sym (append_assoc (part_symbols s.layout 0) (head_parts s.layout s.heads) (choices_of s ++ given_of s))
 
 -- what a list has, one with an element before it has
 pub one_later : (v w : List ℕ) (ws : List (List ℕ)) → Contains ws w → Contains (v ∷ ws) w
@@ -162,6 +195,27 @@ heads_define : (layout : Layout) (heads : Bool) (rest : Sexp) → AreTermNames (
 heads_define layout false rest h = h
 heads_define layout true rest h = part_defines layout 1 rest h
 
+given_define : (layout : Layout) (n : ℕ) (g : Given) (rest : Sexp) → AreTermNames (defined_symbols rest) →
+    AreTermNames (defined_symbols (before (given_declarations layout n g) rest))
+given_define layout n g rest h =
+    let words = declarations (word_sort (Atom (codes "32"))) (register_symbols layout n g) in
+    let bits = declarations (word_sort (Atom (codes "1"))) (flag_symbols layout n g) in
+    let arrays = declarations array_sort (memory_symbols n g) in
+    moved (before (words ++ (bits ++ arrays)) rest) (before words (before (bits ++ arrays) rest)) (before-append words (bits ++ arrays) rest)
+    (declarations_define (word_sort (Atom (codes "32"))) (register_symbols layout n g) (before (bits ++ arrays) rest)
+    (moved (before (bits ++ arrays) rest) (before bits (before arrays rest)) (before-append bits arrays rest)
+    (declarations_define (word_sort (Atom (codes "1"))) (flag_symbols layout n g) (before arrays rest)
+    (declarations_define array_sort (memory_symbols n g) rest h))))
+
+gifts_define : (layout : Layout) (numbers : List ℕ) (gs : List Given) (rest : Sexp) → AreTermNames (defined_symbols rest) →
+    AreTermNames (defined_symbols (before (all_given layout numbers gs) rest))
+gifts_define layout numbers [] rest h = h
+gifts_define layout [] (g ∷ gs) rest h = h
+gifts_define layout (n ∷ ns) (g ∷ gs) rest h =
+    moved (before (given_declarations layout n g ++ all_given layout ns gs) rest) (before (given_declarations layout n g) (before (all_given layout ns gs) rest))
+    (before-append (given_declarations layout n g) (all_given layout ns gs) rest)
+    (given_define layout n g (before (all_given layout ns gs) rest) (gifts_define layout ns gs rest h))
+
 -- what a script defines
 pub script_defines : (s : Source) → AreTermNames (defined_symbols (before (all_commands (middle_commands s)) Nil))
 script_defines s =
@@ -175,18 +229,22 @@ script_defines s =
     let ps = part_declarations s.layout 0 in
     let hs = head_declarations s.layout s.heads in
     let cs = declarations (word_sort (Atom (codes "2"))) (choices_of s) in
+    let gs = all_given s.layout s.numbers s.given in
+    let first = ps ++ (hs ++ (cs ++ gs)) in
     let rest = before (defined ++ says) (one check) in
-    moved (before (((ps ++ (hs ++ cs)) ++ (defined ++ says)) ++ (check ∷ [])) Nil) (before (ps ++ (hs ++ cs)) rest)
-    (before-append ((ps ++ (hs ++ cs)) ++ (defined ++ says)) (check ∷ []) Nil ∙ before-append (ps ++ (hs ++ cs)) (defined ++ says) (one check))
-    (moved (before (ps ++ (hs ++ cs)) rest) (before ps (before (hs ++ cs) rest)) (before-append ps (hs ++ cs) rest)
-    (part_defines s.layout 0 (before (hs ++ cs) rest)
-    (moved (before (hs ++ cs) rest) (before hs (before cs rest)) (before-append hs cs rest)
-    (heads_define s.layout s.heads (before cs rest)
-    (declarations_define (word_sort (Atom (codes "2"))) (choices_of s) rest
+    moved (before ((first ++ (defined ++ says)) ++ (check ∷ [])) Nil) (before first rest)
+    (before-append (first ++ (defined ++ says)) (check ∷ []) Nil ∙ before-append first (defined ++ says) (one check))
+    (moved (before first rest) (before ps (before (hs ++ (cs ++ gs)) rest)) (before-append ps (hs ++ (cs ++ gs)) rest)
+    (part_defines s.layout 0 (before (hs ++ (cs ++ gs)) rest)
+    (moved (before (hs ++ (cs ++ gs)) rest) (before hs (before (cs ++ gs) rest)) (before-append hs (cs ++ gs) rest)
+    (heads_define s.layout s.heads (before (cs ++ gs) rest)
+    (moved (before (cs ++ gs) rest) (before cs (before gs rest)) (before-append cs gs rest)
+    (declarations_define (word_sort (Atom (codes "2"))) (choices_of s) (before gs rest)
+    (gifts_define s.layout s.numbers s.given rest
     (moved rest (before defined (before says (one check))) (before-append defined says (one check))
     (nodes_define s.layout s.numbers 0 s.nodes (before says (one check)) (
       (n, refl),
       moved (before ((entry ++ head) ++ (last ∷ [])) (one check)) (before entry (before head (two last check)))
           (before-append (entry ++ head) (last ∷ []) (one check) ∙ before-append entry head (two last check))
           (runs_define 0 s.kept s.known (before head (two last check)) (head_defines s.asks_head s.kept s.known (two last check) tt)),
-    ))))))))
+    ))))))))))

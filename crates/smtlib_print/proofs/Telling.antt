@@ -1,6 +1,6 @@
 -- The text of a script says the question of its program.
-use Rattle.std.proofs.Common.{◌≡◌, ℕ, zero, suc, ◌+◌, ◌-◌, ◌^◌, ◌<◌, refl, ap, sym, ◌∙◌, arith, false, List, Some, length, map, Contains, inl, inr}
-use Rattle.std.specs.Prelude.{codes, slice_index}
+use Rattle.std.proofs.Common.{◌≡◌, ℕ, zero, suc, ◌+◌, ◌-◌, ◌^◌, ◌<◌, refl, ap, sym, ◌∙◌, arith, false, List, [], Some, length, map, Contains, inl, inr}
+use Rattle.std.specs.Prelude.{slice_index}
 use Rattle.std.specs.Str.{bytes_eq}
 use Rattle.std.proofs.lemmas.Map.Views.{Contains-from_any}
 use Rattle.bilv_spec.specs.Points.{Point}
@@ -13,7 +13,7 @@ use Rattle.term_spec.specs.Terms.{InRange, TermNode}
 use Rattle.walk_spec.specs.Unrolled.{UnrolledProgram, point_at}
 use Rattle.walk_spec.specs.Unrolling.{IsLaidOut}
 use Rattle.term_spec.specs.WalkQuestions.{IsTrueOfWalk, TellsQuestion, term_reading}
-use Rattle.smtlib_print.specs.Commands.{Source, choices_of, middle_commands, part_name}
+use Rattle.smtlib_print.specs.Commands.{Source, choices_of, memory_in, middle_commands, name_in}
 use Rattle.smtlib_print.specs.Written.{commands_text}
 use Rattle.smtlib_print.specs.Told.{AreInOrder, IsDrawn, IsSymbolOf, TellsScript}
 use Rattle.smtlib_print.specs.Scripted.{AreBehind, AreNumbers, FitMemory, program_source, script_text}
@@ -22,7 +22,7 @@ use Rattle.smtlib_print.proofs.Drawn.{drawn_among}
 use Rattle.smtlib_print.proofs.Layouts.{IsUsable, name_at}
 use Rattle.smtlib_print.proofs.Named.{draws_at, draws_length, program_named}
 use Rattle.smtlib_print.proofs.Names.{text_of}
-use Rattle.smtlib_print.proofs.Sources.{HasValues, IsFormed, IsOfScript}
+use Rattle.smtlib_print.proofs.Sources.{HasValues, IsFormed, IsOfPart, gives_flag, gives_memory, gives_register}
 use Rattle.smtlib_print.proofs.Spoken.{IsDeclared, Says, commands, commands_are, defines, drawn_is, plain, says_from, says_to, symbol_from, symbol_to, text_is, well_formed, whole_lines}
 use Rattle.smtlib_print.proofs.Valued.{choice_is, flag_is, memory_is, register_is}
 
@@ -56,25 +56,26 @@ module _ (u : UnrolledProgram) (layout : Layout) (usable : IsUsable layout) (lai
     fit = fit;
     behind = behind;
     asks = λ e. absurd (cc);
+    numbered = omega arith;
   }
 
   -- a program has no head
-  register_value : (r : Reading) (p i : ℕ) → IsOfScript false p → i < length layout.registers →
-      values_of layout points r (part_name p (name_at layout.registers i)) ≡ Some (WordValue 32 (r.state.regs (layout.first + i)))
+  register_value : (r : Reading) (p i : ℕ) → IsOfPart false [] (gives_register (layout.first + i)) p → i < length layout.registers →
+      values_of layout points r (name_in numbers p (name_at layout.registers i)) ≡ Some (WordValue 32 (r.state.regs (layout.first + i)))
   register_value r zero i of l = register_is layout usable points are.few r i l
   register_value r (suc zero) i of l = absurd (cc of)
-  register_value r (suc (suc p)) i of l = absurd of
+  register_value r (suc (suc p)) i of l = absurd (omega (arith, of.0))
 
-  flag_value : (r : Reading) (p f : ℕ) → IsOfScript false p → f < length layout.flags →
-      values_of layout points r (part_name p (name_at layout.flags (length layout.flags - 1 - f))) ≡ Some (WordValue 1 (r.state.flags f))
+  flag_value : (r : Reading) (p f : ℕ) → IsOfPart false [] (gives_flag f) p → f < length layout.flags →
+      values_of layout points r (name_in numbers p (name_at layout.flags (length layout.flags - 1 - f))) ≡ Some (WordValue 1 (r.state.flags f))
   flag_value r zero f of l = flag_is layout usable points are.few r f l
   flag_value r (suc zero) f of l = absurd (cc of)
-  flag_value r (suc (suc p)) f of l = absurd of
+  flag_value r (suc (suc p)) f of l = absurd (omega (arith, of.0))
 
-  memory_value : (r : Reading) (p : ℕ) → IsOfScript false p → values_of layout points r (part_name p (codes "mem")) ≡ Some (ArrayValue r.state.mem)
+  memory_value : (r : Reading) (p : ℕ) → IsOfPart false [] gives_memory p → values_of layout points r (memory_in numbers p) ≡ Some (ArrayValue r.state.mem)
   memory_value r zero of = memory_is layout usable points are.few r
   memory_value r (suc zero) of = absurd (cc of)
-  memory_value r (suc (suc p)) of = absurd of
+  memory_value r (suc (suc p)) of = absurd (omega (arith, of.0))
 
   values : (r : Reading) → HasValues s (term_reading u r) (values_of layout points r)
   values r = record {
@@ -103,12 +104,13 @@ module _ (u : UnrolledProgram) (layout : Layout) (usable : IsUsable layout) (lai
   symbol_of w (inl v) = inl v
   symbol_of w (inr (inl e)) = inr (inl e)
   symbol_of w (inr (inr (inl h))) = absurd (omega (arith, h.1))
-  symbol_of w (inr (inr (inr c))) = inr (inr (choice_drawn w c))
+  symbol_of w (inr (inr (inr (inl c)))) = inr (inr (choice_drawn w c))
+  symbol_of w (inr (inr (inr (inr g)))) = absurd (omega (arith, g.1))
 
   of_symbol : (w : List ℕ) → IsSymbolOf u layout points w → IsDeclared s w
   of_symbol w (inl v) = inl v
   of_symbol w (inr (inl e)) = inr (inl e)
-  of_symbol w (inr (inr d)) = inr (inr (inr (drawn_choice w d)))
+  of_symbol w (inr (inr d)) = inr (inr (inr (inl (drawn_choice w d))))
 
   -- what it says is the question
   question_to : (r : Reading) → IsReading r → r.state.pc ≡ u.entry → Says s (term_reading u r) → IsTrueOfWalk u r question

@@ -15,7 +15,7 @@ use Rattle.term_spec.specs.Terms.{TermNode, HasWidth, IsTypedOver, AreTypedFrom,
 use Rattle.walk_spec.specs.Unrolled.{AddressRun, ByteRun}
 use Rattle.term_dag.proofs.ListLaws.{last, longer, typed_push}
 use Rattle.term_dag.proofs.Shapes.{few_bits}
-use Rattle.smtlib_print.specs.Commands.{file_assertions, head_assertions, part_declarations, part_names, word_sort, is_of_part, memory_name, part_name, binary_digits, constant_text, operation, behind, loading, storing, extract, extend, node_term, sort_of, node_definitions, assertion, has_byte, byte_assertions, run_assertions, declarations, selected, choose}
+use Rattle.smtlib_print.specs.Commands.{file_assertions, head_assertions, part_declarations, part_names, word_sort, is_of_part, memory_in, memory_name, name_in, part_name, binary_digits, constant_text, operation, behind, loading, storing, taking, extract, extend, node_term, sort_of, node_definitions, assertion, has_byte, byte_assertions, run_assertions, declarations, selected, choose}
 use Rattle.smtlib_print.proofs.Names.{number_word, term_word}
 use Rattle.smtlib_print.proofs.ReadBack.{is_inner, is_word, IsWritable, AreWritable, AreWritable-append}
 
@@ -104,6 +104,11 @@ storing_writable e n m a v (suc i) s l h k q =
       ),
     )
 
+taking_writable : (from : List ℕ) (m a i : ℕ) → is_word from ≡ true → Few m → Few a → IsWritable (taking from m a i)
+taking_writable from m a zero w h k = term_word m h
+taking_writable from m a (suc i) w h k =
+    (refl, (taking_writable from m a i w h k, (behind_writable a i k, ((refl, (w, (behind_writable a i k, tt))), tt))))
+
 choose_writable : (c a b : ℕ) → Few c → Few a → Few b → IsWritable (choose c a b)
 choose_writable c a b h k l = (refl, ((refl, (term_word c h, (refl, tt))), (term_word a k, (term_word b l, tt))))
 
@@ -118,9 +123,11 @@ memory_word p = part_word p (codes "mem") refl
 
 -- the name of an input is a word
 abbrev pub HasWord : Layout → (numbers : List ℕ) → TermNode → Type 0
-HasWord layout numbers (terms.RegisterNode p r) = is_word (part_name p (slice_index_or layout.registers (r - layout.first) [])) ≡ true
-HasWord layout numbers (terms.FlagNode p f) = is_word (part_name p (slice_index_or layout.flags (length layout.flags - 1 - f) [])) ≡ true
+HasWord layout numbers (terms.RegisterNode p r) = is_word (name_in numbers p (slice_index_or layout.registers (r - layout.first) [])) ≡ true
+HasWord layout numbers (terms.FlagNode p f) = is_word (name_in numbers p (slice_index_or layout.flags (length layout.flags - 1 - f) [])) ≡ true
 HasWord layout numbers (terms.ChoiceNode i) = is_word (choice_name (slice_index numbers i)) ≡ true
+HasWord layout numbers (terms.MemoryNode p) = is_word (memory_in numbers p) ≡ true
+HasWord layout numbers (terms.TakeNode n m a p) = is_word (memory_in numbers p) ≡ true
 HasWord layout numbers n = Unit {0}
 
 abbrev pub HaveWords : Layout → (numbers : List ℕ) → List TermNode → Type 0
@@ -134,7 +141,7 @@ node_writable layout numbers bs (terms.RegisterNode p r) t s h w = w
 node_writable layout numbers bs (terms.FlagNode p f) t s h w = w
 node_writable layout numbers bs (terms.ChoiceNode i) t s h w = w
 node_writable layout numbers bs (terms.BaseNode p j) t s h w = hex_inners 2 0
-node_writable layout numbers bs (terms.MemoryNode p) t s h w = memory_word p
+node_writable layout numbers bs (terms.MemoryNode p) t s h w = w
 node_writable layout numbers bs (terms.ConstantNode n v) t s h w = constant_word n v
 node_writable layout numbers bs (terms.BinaryNode o n a b) t s h w = operation_writable o n a b (omega (arith, s, h.1.0)) (omega (arith, s, h.2.0))
 node_writable layout numbers bs (terms.NotNode n a) t s h w = (refl, (term_word a (omega (arith, s, h.1.0)), tt))
@@ -151,7 +158,8 @@ node_writable layout numbers bs (terms.StoreNode n e m a v) t s h w =
     storing_writable e n m a v n h.0.1 (omega arith) (omega (arith, s, h.1.0)) (omega (arith, s, h.2.0)) (omega (arith, s, h.3.0))
 node_writable layout numbers bs (terms.JoinNode c a b) t s h w =
     choose_writable c a b (omega (arith, s, h.0.0)) (omega (arith, s, h.1.0)) (omega (arith, s, h.2.0))
-node_writable layout numbers bs (terms.TakeNode n m a p) t s h w = term_word m (omega (arith, s, h.1.0))
+node_writable layout numbers bs (terms.TakeNode n m a p) t s h w =
+    taking_writable (memory_in numbers p) m a n w (omega (arith, s, h.1.0)) (omega (arith, s, h.2.0))
 
 sort_writable : (w : ℕ) → w < 2 ^ 64 → IsWritable (sort_of w)
 sort_writable zero h = (refl, ((refl, (refl, (refl, tt))), ((refl, (refl, (refl, tt))), tt)))

@@ -8,7 +8,8 @@ use Rattle.bilv_spec.specs.Scripts.{choice_name}
 use Rattle.bilv_spec.specs.SmtLib.{Sexp, Atom, Nil}
 use Rattle.term_spec.specs.Terms.{TermNode, RegisterNode, FlagNode, ChoiceNode, BaseNode, MemoryNode, ConstantNode, BinaryNode, NotNode, SelectNode, ExtractNode, ConcatNode, ExtendNode, LoadNode, StoreNode, JoinNode, TakeNode, width_of}
 use Rattle.walk_spec.specs.Unrolled.{AddressRun, ByteRun, is_in}
-use Rattle.frame_spec.specs.FrameScripts.{of_head}
+use Rattle.frame_spec.specs.Frames.{Writes}
+use Rattle.frame_spec.specs.FrameScripts.{of_head, given_prefix, of_given, changed_registers, changed_flags, written_memory, writes_some}
 use Rattle.smtlib_print.specs.Written.{one, two, three, four, five}
 
 -- the name of a term: t and its place
@@ -128,7 +129,7 @@ abbrev pub storing : Endian → (n m a v count : ℕ) → Sexp
 storing e n m a v zero = term m
 storing e n m a v (suc i) = four (Atom (codes "store")) (storing e n m a v i) (behind a i) (extract (8 * place e n i + 7) (8 * place e n i) v)
 
--- the symbol of what a part has, by its name: the entry's is the name, and the head's has h_ before it
+-- the symbol of what the entry has, whose part is 0, is its name, and that of what the head has, whose part is 1, has h_ before it
 abbrev pub part_prefix : (part : ℕ) → List ℕ
 part_prefix zero = []
 part_prefix (suc p) = of_head []
@@ -145,13 +146,34 @@ part_names (suc p) names = map of_head names
 abbrev pub memory_name : (part : ℕ) → List ℕ
 memory_name p = part_name p (codes "mem")
 
--- the term of a node: names of registers, flags and choices come from the layout and the numbers of points; no byte is read of a base, and none is taken
+-- the same of any part: that of what the contract step of a place is given is two above the place, and has the number of the point in its symbols
+abbrev pub prefix_in : (numbers : List ℕ) → (part : ℕ) → List ℕ
+prefix_in numbers zero = part_prefix zero
+prefix_in numbers (suc zero) = part_prefix (suc zero)
+prefix_in numbers (suc (suc i)) = given_prefix (slice_index numbers i)
+
+abbrev pub name_in : (numbers : List ℕ) → (part : ℕ) → List ℕ → List ℕ
+name_in numbers p w = prefix_in numbers p ++ w
+
+abbrev pub memory_in : (numbers : List ℕ) → (part : ℕ) → List ℕ
+memory_in numbers p = name_in numbers p (codes "mem")
+
+-- the byte of a memory by its symbol at a distance behind an address
+abbrev pub taken : (from : List ℕ) → (a distance : ℕ) → Sexp
+taken from a i = three (Atom (codes "select")) (Atom from) (behind a i)
+
+-- a memory with the first bytes that another one, by its symbol, has from an address on
+abbrev pub taking : (from : List ℕ) → (m a count : ℕ) → Sexp
+taking from m a zero = term m
+taking from m a (suc i) = four (Atom (codes "store")) (taking from m a i) (behind a i) (taken from a i)
+
+-- the term of a node: names of registers, flags and choices come from the layout and the numbers of points; no byte is read of a base
 abbrev pub node_term : Layout → (numbers : List ℕ) → TermNode → Sexp
-node_term layout numbers (RegisterNode p r) = Atom (part_name p (slice_index_or layout.registers (r - layout.first) []))
-node_term layout numbers (FlagNode p f) = Atom (part_name p (slice_index_or layout.flags (length layout.flags - 1 - f) []))
+node_term layout numbers (RegisterNode p r) = Atom (name_in numbers p (slice_index_or layout.registers (r - layout.first) []))
+node_term layout numbers (FlagNode p f) = Atom (name_in numbers p (slice_index_or layout.flags (length layout.flags - 1 - f) []))
 node_term layout numbers (ChoiceNode i) = Atom (choice_name (slice_index numbers i))
 node_term layout numbers (BaseNode p j) = byte 0
-node_term layout numbers (MemoryNode p) = Atom (memory_name p)
+node_term layout numbers (MemoryNode p) = Atom (memory_in numbers p)
 node_term layout numbers (ConstantNode w v) = constant w v
 node_term layout numbers (BinaryNode o w a b) = operation o w a b
 node_term layout numbers (NotNode w a) = two (Atom (codes "bvnot")) (term a)
@@ -162,7 +184,7 @@ node_term layout numbers (ExtendNode signed n m a) = extend signed (m - n) a
 node_term layout numbers (LoadNode n e m a) = loading e m a (n - 1)
 node_term layout numbers (StoreNode n e m a v) = storing e n m a v n
 node_term layout numbers (JoinNode c a b) = choose c a b
-node_term layout numbers (TakeNode n m a p) = term m
+node_term layout numbers (TakeNode n m a p) = taking (memory_in numbers p) m a n
 
 -- the definition of a term by its place
 abbrev pub definition : (at : ℕ) → (sort says : Sexp) → Sexp
@@ -223,10 +245,42 @@ abbrev pub head_declarations : Layout → (heads : Bool) → List Sexp
 head_declarations layout false = []
 head_declarations layout true = part_declarations layout 1
 
--- what is declared: what the entry has, what the head has, and the choices
-abbrev pub all_declarations : Layout → (heads : Bool) → (choices : List (List ℕ)) → List Sexp
-all_declarations layout heads choices =
-    part_declarations layout 0 ++ (head_declarations layout heads ++ declarations (word_sort (Atom (codes "2"))) choices)
+-- What a contract step is given: registers and flags by their numbers, and the bytes that may be written.
+pub record Given : Type 0 where
+  pub registers : List ℕ
+  pub flags : List ℕ
+  pub writes : List Writes
+
+-- nothing is given
+abbrev pub nothing : Given
+nothing = record { registers = []; flags = []; writes = [] }
+
+-- the symbols of what is given at the point of a number: of registers, of flags, and of the memory
+abbrev pub register_symbols : Layout → ℕ → Given → List (List ℕ)
+register_symbols layout n g = map (of_given n) (changed_registers g.registers layout.first layout.registers)
+
+abbrev pub flag_symbols : Layout → ℕ → Given → List (List ℕ)
+flag_symbols layout n g = map (of_given n) (changed_flags g.flags layout.flags)
+
+abbrev pub memory_symbols : ℕ → Given → List (List ℕ)
+memory_symbols n g = map (of_given n) (written_memory (writes_some g.writes))
+
+-- what is declared of it
+abbrev pub given_declarations : Layout → ℕ → Given → List Sexp
+given_declarations layout n g =
+    declarations (word_sort (Atom (codes "32"))) (register_symbols layout n g)
+    ++ (declarations (word_sort (Atom (codes "1"))) (flag_symbols layout n g) ++ declarations array_sort (memory_symbols n g))
+
+-- what is declared of what is given at all places
+abbrev pub all_given : Layout → (numbers : List ℕ) → List Given → List Sexp
+all_given layout numbers [] = []
+all_given layout [] (g ∷ gs) = []
+all_given layout (n ∷ numbers) (g ∷ gs) = given_declarations layout n g ++ all_given layout numbers gs
+
+-- what is declared: what the entry has, what the head has, the choices, and what contract steps are given
+abbrev pub all_declarations : Layout → (heads : Bool) → (choices : List (List ℕ)) → (given : List Sexp) → List Sexp
+all_declarations layout heads choices given =
+    part_declarations layout 0 ++ (head_declarations layout heads ++ (declarations (word_sort (Atom (codes "2"))) choices ++ given))
 
 -- the assertions of the bytes of the file, of the head's memory too if it is asked
 abbrev pub head_assertions : (asked : Bool) → (kept : List AddressRun) → List ByteRun → List Sexp
@@ -236,13 +290,15 @@ head_assertions true kept known = run_assertions 1 kept known
 abbrev pub file_assertions : (asked : Bool) → (kept : List AddressRun) → List ByteRun → List Sexp
 file_assertions asked kept known = run_assertions 0 kept known ++ head_assertions asked kept known
 
--- What a script is made of: the form of states; whether there is a head state beside the one at entry; the numbers of the points by their places, and whether
--- they draw; the known bytes, the runs of kept addresses, and whether the head state is asked to have the kept bytes; the nodes, and the one that is meant.
+-- What a script is made of: the form of states; whether there is a head state beside the one at entry; the numbers of the points by their places, whether they
+-- draw, and what their contract steps are given, unless nothing is; the known bytes, the runs of kept addresses, and whether the head state is asked to have the
+-- kept bytes; the nodes, and the one that is meant.
 pub record Source : Type 0 where
   pub layout : Layout
   pub heads : Bool
   pub numbers : List ℕ
   pub draws : List Bool
+  pub given : List Given
   pub known : List ByteRun
   pub kept : List AddressRun
   pub asks_head : Bool
@@ -261,7 +317,9 @@ last_commands s =
 
 -- the commands between the logic and the check
 abbrev pub middle_commands : Source → List Sexp
-middle_commands s = all_declarations s.layout s.heads (choices_of s) ++ (node_definitions s.layout s.numbers 0 s.nodes ++ last_commands s)
+middle_commands s =
+    all_declarations s.layout s.heads (choices_of s) (all_given s.layout s.numbers s.given)
+    ++ (node_definitions s.layout s.numbers 0 s.nodes ++ last_commands s)
 
 -- the commands of a script
 abbrev pub all_commands : List Sexp → List Sexp

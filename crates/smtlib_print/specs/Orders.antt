@@ -1,9 +1,10 @@
 -- The order of points in scripts, as an order of lists of numbers, and points that are put into it.
-use Rattle.std.specs.Prelude.{ℕ, ◌≡◌, ◌<◌, List, [], ◌∷◌, Some, false, length, map, slice_get, slice_index, slice_index_or}
+use Rattle.std.specs.Prelude.{ℕ, ◌≡◌, ◌<◌, ◌&&◌, Bool, List, [], ◌∷◌, Some, length, map, slice_get, slice_index, slice_index_or}
 use Rattle.std.specs.Cmp.Lexicographic.{slice_cmp}
 use Rattle.std.specs.Ordering.{nat_cmp, is_lt}
 use Rattle.std.specs.List.Sorted.{IsSortedBy}
 use Rattle.std.specs.declared.cmp.Ordering.{Ordering}
+use Rattle.word_spec.specs.Words.{bit}
 use Rattle.frame_spec.specs.FramePoints.{Anchor, AtEntry, AtHead, Point}
 use Rattle.program_points.specs.Listed.{anchor_of}
 use Rattle.program_points.specs.Tables.{stack_at, stacks_of}
@@ -11,7 +12,7 @@ use Rattle.program_points.specs.declared.values.Frame.{Frame}
 use Rattle.question_form.specs.declared.unrolled.Point as declared
 use Rattle.question_form.specs.declared.unrolled.Root.{Root}
 use Rattle.question_form.specs.declared.unrolled.Unrolled.{Unrolled}
-use Rattle.question_form.specs.FrameViews.{no_root}
+use Rattle.question_form.specs.FrameViews.{is_contract, no_root}
 use Rattle.question_form.specs.Views.{code_of}
 use Rattle.smtlib_print.specs.declared.ordering.Placed.{Placed}
 
@@ -29,9 +30,9 @@ abbrev pub anchor_key : Anchor → List ℕ → List ℕ
 anchor_key AtEntry rest = 0 ∷ rest
 anchor_key (AtHead s a) rest = 1 ∷ spot_key s a rest
 
--- what is compared of a point: its anchor, its backward transfers, its stack and its address
+-- what is compared of a point: its anchor, its backward transfers, its stack, its address, and whether a contract step is made there
 abbrev pub point_key : Point → List ℕ
-point_key q = anchor_key q.anchor (q.turns ∷ spot_key q.stack q.at [])
+point_key q = anchor_key q.anchor (q.turns ∷ spot_key q.stack q.at (bit q.contract ∷ []))
 
 -- the order of points
 abbrev pub point_order : Point → Point → Ordering
@@ -53,25 +54,25 @@ stack_order s t = slice_cmp nat_cmp (from_bottom s []) (from_bottom t [])
 abbrev pub AreDepths : List Frame → List ℕ → Type 0
 AreDepths frames depths = (n : ℕ) → slice_index depths n ≡ length (stack_at frames n)
 
--- a point of a frame that steps over no contract, whose segment begins at one of some roots; where there is no root of its number, it is the entry's
-abbrev pub point_by : Unrolled → List Root → declared.Point → Point
-point_by u roots q = record {
+-- A point whose segment begins at one of some roots; where there is no root of its number, it is the entry's. steps: contract steps are told from rows.
+abbrev pub point_by : Unrolled → (steps : Bool) → List Root → declared.Point → Point
+point_by u steps roots q = record {
   anchor = anchor_of (stacks_of u.frames.items) (slice_index_or roots q.root no_root).head;
   turns = q.turns;
-  contract = false;
+  contract = steps && is_contract q.deed;
   stack = stack_at u.frames.items q.stack;
   at = (code_of u q).at;
 }
 
-abbrev pub points_by : Unrolled → List Root → List Point
-points_by u roots = map (point_by u roots) u.points.items
+abbrev pub points_by : Unrolled → (steps : Bool) → List Root → List Point
+points_by u steps roots = map (point_by u steps roots) u.points.items
 
 -- a point that is placed
 abbrev pub placed_point : List Frame → Placed → Point
 placed_point frames x = record {
   anchor = anchor_of (stacks_of frames) x.root;
   turns = x.turns;
-  contract = false;
+  contract = x.contract;
   stack = stack_at frames x.stack;
   at = x.at;
 }

@@ -1,12 +1,17 @@
 -- The text of a script, and the law that it tells its question.
-use Rattle.std.specs.Prelude.{ℕ, ◌≡◌, ◌≢◌, ◌≤◌, ◌<◌, ◌+◌, ◌^◌, ◌&&◌, Bool, false, List, [], ◌∷◌, Some, length, map, slice_get, slice_index}
+use Rattle.std.specs.Prelude.{ℕ, ◌≡◌, ◌≢◌, ◌≤◌, ◌<◌, ◌+◌, ◌^◌, ◌&&◌, Bool, false, if◌then◌else◌, List, [], ◌∷◌, Some, length, map, slice_get, slice_index}
 use Rattle.bilv_spec.specs.Points.{Point}
 use Rattle.call_spec.specs.Calls.{Question}
+use Rattle.frame_spec.specs.Frames.{Contract}
 use Rattle.frame_spec.specs.FrameQuestions.{asks_head}
 use Rattle.known_bytes.specs.Runs.{run_of}
 use Rattle.question_form.specs.declared.questions.Question as forms
+use Rattle.question_form.specs.declared.unrolled.Deed.{Deed}
+use Rattle.question_form.specs.declared.unrolled.Deed.TheVariants as deeds
+use Rattle.question_form.specs.declared.unrolled.Deed.TheVariants.{Row, Arrival}
 use Rattle.question_form.specs.declared.unrolled.Unrolled.{Unrolled}
 use Rattle.question_form.specs.FrameQuestions.{frame_question_of}
+use Rattle.question_form.specs.FrameViews.{stepped_at}
 use Rattle.question_form.specs.Views.{code_of, kept_of}
 use Rattle.machine_spec.specs.StateText as texts
 use Rattle.term_spec.specs.Terms.{TermNode}
@@ -15,7 +20,7 @@ use Rattle.walk_spec.specs.Unrolling.{IsLaidOut}
 use Rattle.term_spec.specs.WalkQuestions.{TellsQuestion}
 use Rattle.start_value.specs.declared.layout.Layout.{Layout}
 use Rattle.start_value.specs.Starts.{layout_of}
-use Rattle.smtlib_print.specs.Commands.{Source, all_commands, middle_commands}
+use Rattle.smtlib_print.specs.Commands.{Given, Source, all_commands, middle_commands, nothing}
 use Rattle.smtlib_print.specs.Told.{AreInOrder, TellsScript}
 use Rattle.smtlib_print.specs.Written.{commands_text}
 
@@ -50,6 +55,7 @@ program_source layout u numbers nodes root = record {
   heads = false;
   numbers = numbers;
   draws = map (λ q. q.draws) u.points;
+  given = [];
   known = u.known;
   kept = u.kept;
   asks_head = false;
@@ -69,13 +75,28 @@ script_text layout u numbers nodes root = source_text (program_source layout u n
 abbrev pub draws_of : Unrolled → List Bool
 draws_of v = map (λ q. (code_of v q).draws) v.points.items
 
--- what the script of a question is made of, in which there is a head state or none
-abbrev pub source_of : forms.Question → (heads : Bool) → (numbers : List ℕ) → Source
-source_of q heads numbers = let v = q.passive.now.unrolled.now in record {
+-- what a contract step of some contract is given
+abbrev pub given_of : Contract → Given
+given_of x = record { registers = x.registers; flags = x.flags; writes = x.writes }
+
+-- what is given where this is done
+abbrev pub given_by : Unrolled → Deed → Given
+given_by v Row = nothing
+given_by v Arrival = nothing
+given_by v (deeds.Contract n) = given_of (stepped_at v n)
+
+-- what the contract steps of the points are given
+abbrev pub givens_of : Unrolled → List Given
+givens_of v = map (λ q. given_by v q.deed) v.points.items
+
+-- what the script of a question is made of, in which there is a head state or none, and contract steps are given something or nothing
+abbrev pub source_of : forms.Question → (heads steps : Bool) → (numbers : List ℕ) → Source
+source_of q heads steps numbers = let v = q.passive.now.unrolled.now in record {
   layout = layout_of v.form;
   heads = heads;
   numbers = numbers;
   draws = draws_of v;
+  given = if steps then givens_of v else [];
   known = map run_of v.known.items;
   kept = map kept_of v.kept.now;
   asks_head = heads && asks_head (frame_question_of q);

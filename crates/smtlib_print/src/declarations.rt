@@ -13,7 +13,7 @@ use start_value::Layout;
 use std::alloc::AllocError;
 
 /// The number of the first register of a form.
-fn first_register(form: Layout) -> u8
+pub fn first_register(form: Layout) -> u8
     ensures { result ≡ (layout_of form).first }
 {
     match form {

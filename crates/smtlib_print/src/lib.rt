@@ -4,6 +4,7 @@
 mod declarations;
 mod definitions;
 mod file_bytes;
+mod gifts;
 mod laws;
 mod numbering;
 mod ordering;

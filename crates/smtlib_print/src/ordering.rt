@@ -1,5 +1,6 @@
 //! The order of points in scripts: by where their segments begin, the entry first, then by backward transfers, then by how many addresses their stacks have,
-//! then by these from the bottom, then by address. Heads are in the order of their stacks and addresses.
+//! then by these from the bottom, then by address; a contract step comes behind the row of the same address. Heads are in the order of their stacks and
+//! addresses.
 ghost use Rattle.std.specs.Prelude.{◌≡◌, ◌<◌, ◌≤◌, ◌∷◌, [], ℕ, length, slice_index, IfOk, MatchOption, OnOk};
 ghost use Rattle.std.specs.List.Sorted.{IsPermutation};
 ghost use Rattle.program_points.specs.Listed.{anchor_of};
@@ -20,6 +21,8 @@ pub struct Placed {
     /// The number of its stack.
     pub stack: usize,
     pub at: u32,
+    /// A contract step is made there.
+    pub contract: bool,
     pub place: u32,
 }
 
@@ -129,7 +132,7 @@ fn compare_anchors(frames: &[Frame], depths: &[usize], x: Option<Root>, y: Optio
     }
 }
 
-/// Where a point stands, without its segment and its backward transfers.
+/// Where a point stands, without its segment, its backward transfers and its contract step.
 fn spot(x: &Placed) -> Root
     ensures stack { result.stack ≡ x.now.stack }
     ensures at { result.at ≡ x.now.at }
@@ -147,7 +150,9 @@ fn compare(frames: &[Frame], depths: &[usize], x: &Placed, y: &Placed) -> Orderi
 {
     let anchors = compare_anchors(frames, depths, x.root, y.root);
     match anchors.then(x.turns.cmp(&y.turns)) {
-        Ordering::Equal => compare_spots(frames, depths, spot(x), spot(y)),
+        Ordering::Equal => compare_spots(frames, depths, spot(x), spot(y)).then(
+            x.contract.cmp(&y.contract),
+        ),
         order => order,
     }
 }

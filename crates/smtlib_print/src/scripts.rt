@@ -1,5 +1,5 @@
 //! The script of a question.
-ghost use Rattle.std.specs.Prelude.{◌≡◌, ◌<◌, ◌^◌, ◌++◌, ◌&&◌, ℕ, codes, length, map, string_bytes, IfOk, OnOk};
+ghost use Rattle.std.specs.Prelude.{◌≡◌, ◌<◌, ◌^◌, ◌++◌, ◌&&◌, ℕ, [], codes, if◌then◌else◌, length, map, string_bytes, IfOk, OnOk};
 ghost use Rattle.frame_spec.specs.FrameQuestions.{asks_head};
 ghost use Rattle.frame_terms.specs.PassiveFrames as frames;
 ghost use Rattle.term_spec.specs.Terms.{node_at};
@@ -12,13 +12,14 @@ ghost use Rattle.smtlib_print.specs.Commands as commands;
 ghost use Rattle.smtlib_print.specs.FrameTold.{TellsFrameScript};
 ghost use Rattle.smtlib_print.specs.Numbered.{AreApart, AreOnce};
 ghost use Rattle.smtlib_print.specs.Printable.{IsPrintable};
-ghost use Rattle.smtlib_print.specs.Scripted.{FitMemory, draws_of, source_of, source_text};
+ghost use Rattle.smtlib_print.specs.Scripted.{FitMemory, draws_of, givens_of, source_of, source_text};
 ghost use Rattle.smtlib_print.specs.Told.{TellsScript};
 ghost use Rattle.smtlib_print.specs.Written.{commands_text, written};
 
 use crate::declarations::{declare_choices, declare_head, declare_part};
 use crate::definitions::{push_definitions, push_root};
 use crate::file_bytes::push_file;
+use crate::gifts::declare_gifts;
 use crate::numbering::{frame_numbers, numbers};
 use question_form::{Question, Unrolled};
 use std::alloc::{AllocError, Global};
@@ -26,22 +27,26 @@ use std::alloc::{AllocError, Global};
 /// The most nodes whose places have 32 bits.
 const MOST: usize = 4294967295;
 
-/// Appends the logic and the declarations; those of the head state too, where there is one.
+/// Appends the logic and the declarations; those of the head state too, where there is one, and those of what contract steps are given, where these are told
+/// from rows.
 fn push_head(
     out: &mut String,
     unrolled: &Unrolled,
     heads: bool,
+    steps: bool,
     numbers: &[u32],
 ) -> Result<(), AllocError>
     requires { length numbers.now ≡ length unrolled.now.points.items }
     ensures { OnOk result (string_bytes out.new
         ≡ string_bytes out.old ++ (codes "(set-logic QF_ABV)\n"
-        ++ commands_text (commands.all_declarations (layout_of unrolled.now.form) heads (commands.drawn numbers.now (draws_of unrolled.now))))) }
+        ++ commands_text (commands.all_declarations (layout_of unrolled.now.form) heads (commands.drawn numbers.now (draws_of unrolled.now))
+        (commands.all_given (layout_of unrolled.now.form) numbers.now (if steps then givens_of unrolled.now else []))))) }
 {
     out.push_str("(set-logic QF_ABV)\n")?;
     declare_part(out, unrolled.form, 0)?;
     declare_head(out, unrolled.form, heads)?;
     declare_choices(out, unrolled, numbers)?;
+    declare_gifts(out, unrolled, steps, numbers)?;
     Ok(())
 }
 
@@ -63,19 +68,20 @@ fn is_head_asked(question: &Question, heads: bool) -> bool
     false
 }
 
-/// The text of the script of a question, in which the choices of points have these numbers, and there is a head state beside that at entry or none. The error
-/// is want of memory, or of numbers for nodes.
+/// The text of the script of a question, in which the choices of points have these numbers, there is a head state beside that at entry or none, and contract steps
+/// are told from rows or are not. The error is want of memory, or of numbers for nodes.
 fn text_of(
     alloc: Global,
     question: &Question,
     heads: bool,
+    steps: bool,
     numbers: &[u32],
 ) -> Result<String, AllocError>
     requires printable { (t : ℕ) → t < length question.now.dag → IsPrintable (layout_of question.now.passive.now.unrolled.now.form)
         (length numbers.now) (node_at question.now.dag t) }
     requires runs { AreRuns question.now.passive.now.unrolled.now.known.items }
     requires count { length numbers.now ≡ length question.now.passive.now.unrolled.now.points.items }
-    ensures text { IfOk result (λ text. string_bytes text ≡ source_text (source_of question.now heads numbers.now)) }
+    ensures text { IfOk result (λ text. string_bytes text ≡ source_text (source_of question.now heads steps numbers.now)) }
     ensures few { OnOk result (length question.now.dag < 2 ^ 32) }
     ensures fit { OnOk result (FitMemory (map run_of question.now.passive.now.unrolled.now.known.items)) }
 {
@@ -85,7 +91,7 @@ fn text_of(
         return Err(AllocError);
     }
     let mut out = String::new(alloc);
-    push_head(&mut out, unrolled, heads, numbers)?;
+    push_head(&mut out, unrolled, heads, steps, numbers)?;
     push_definitions(
         &mut out,
         unrolled.form,
@@ -114,13 +120,14 @@ pub fn script(alloc: Global, question: &Question) -> Result<String, AllocError>
         (question_of question.now) (string_bytes text)) }
 {
     let numbers = numbers(alloc, question.passive.unrolled)?;
-    let text = text_of(alloc, question, false, &numbers)?;
+    let text = text_of(alloc, question, false, false, &numbers)?;
     Ok(text)
 }
 
 /// The script of a question of a frame in SMT-LIB 2.6: it is satisfied by exactly those readings of which the question is true. Where the frame has a head, it
-/// declares the head state too, in symbols that begin with `h_`, whatever the question is. The choice of a point has the number of the point in the order of
-/// scripts. The error is want of memory, or of numbers for terms and points.
+/// declares the head state too, in symbols that begin with `h_`, whatever the question is; and for each contract step what it is given of what the contract may
+/// change, in symbols that begin with `g`, the number of its point, and `_`. The choice of a point has the number of the point in the order of scripts. The error
+/// is want of memory, or of numbers for terms and points.
 pub fn frame_script(alloc: Global, question: &Question) -> Result<String, AllocError>
     requires tells { frames.TellsQuestion (frame_of_question question.now) (heads_of_question question.now) (frame_question_of question.now)
         (term_of question.now) }
@@ -131,6 +138,6 @@ pub fn frame_script(alloc: Global, question: &Question) -> Result<String, AllocE
 {
     let unrolled = question.passive.unrolled;
     let numbers = frame_numbers(alloc, unrolled)?;
-    let text = text_of(alloc, question, unrolled.heads, &numbers)?;
+    let text = text_of(alloc, question, unrolled.heads, true, &numbers)?;
     Ok(text)
 }

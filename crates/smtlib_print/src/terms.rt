@@ -8,11 +8,11 @@ ghost use Rattle.term_spec.specs.Terms.{IsBytes, IsWidth};
 ghost use Rattle.start_value.specs.Starts.{layout_of};
 ghost use Rattle.term_dag.specs.Nodes.{node_of, op_of};
 ghost use Rattle.smtlib_print.specs.Commands as commands;
-ghost use Rattle.smtlib_print.specs.Printable.{IsCompound, IsPrintable};
+ghost use Rattle.smtlib_print.specs.Printable.{HasSymbols, IsCompound, IsPrintable};
 ghost use Rattle.smtlib_print.specs.Written.{three, two, written};
 
 use crate::words::{
-    ones, push_address, push_byte, push_constant, push_flag, push_memory, push_register,
+    ones, push_address, push_byte, push_constant, push_flag_in, push_memory_in, push_register_in,
 };
 use start_value::Layout;
 use std::alloc::AllocError;
@@ -150,18 +150,18 @@ fn push_extend(out: &mut String, signed: bool, more: u8, term: Term) -> Result<(
 }
 
 /// Appends the address at a distance behind a term, which is not 0.
-fn push_further(out: &mut String, address: Term, distance: u8) -> Result<(), AllocError>
+fn push_further(out: &mut String, address: Term, distance: u32) -> Result<(), AllocError>
     ensures { OnOk result (string_bytes out.new ≡ string_bytes out.old
         ++ written (three (Atom (codes "bvadd")) (commands.term address.0) (commands.address distance))) }
 {
     let address = address.0;
     write!(out, "(bvadd t{address} ")?;
-    push_address(out, distance as u32)?;
+    push_address(out, distance)?;
     out.push_str(")")
 }
 
 /// Appends the address at a distance behind a term.
-fn push_behind(out: &mut String, address: Term, distance: u8) -> Result<(), AllocError>
+fn push_behind(out: &mut String, address: Term, distance: u32) -> Result<(), AllocError>
     ensures { OnOk result (string_bytes out.new ≡ string_bytes out.old ++ written (commands.behind address.0 distance)) }
 {
     let address = address.0;
@@ -182,7 +182,7 @@ fn push_selected(
 {
     let memory = memory.0;
     write!(out, "(select t{memory} ")?;
-    push_behind(out, address, distance)?;
+    push_behind(out, address, distance as u32)?;
     out.push_str(")")
 }
 
@@ -245,10 +245,55 @@ fn push_store(
     out.push_str("(store ")?;
     push_store(out, big, bytes, memory, address, value, count - 1)?;
     out.push_str(" ")?;
-    push_behind(out, address, count - 1)?;
+    push_behind(out, address, (count - 1) as u32)?;
     out.push_str(" ")?;
     let lowest = 8 * byte_place(big, bytes, count - 1);
     push_extract(out, lowest + 7, lowest, value)?;
+    out.push_str(")")
+}
+
+/// Appends the byte of a part's memory at a distance behind an address.
+fn push_taken(
+    out: &mut String,
+    numbers: &[u32],
+    part: u32,
+    address: Term,
+    distance: u32,
+) -> Result<(), AllocError>
+    requires { HasSymbols (length numbers.now) part }
+    ensures { OnOk result (string_bytes out.new
+        ≡ string_bytes out.old ++ written (commands.taken (commands.memory_in numbers.now part) address.0 distance)) }
+{
+    out.push_str("(select ")?;
+    push_memory_in(out, numbers, part)?;
+    out.push_str(" ")?;
+    push_behind(out, address, distance)?;
+    out.push_str(")")
+}
+
+/// Appends a memory with the first bytes that the memory of a part has from an address on.
+fn push_take(
+    out: &mut String,
+    numbers: &[u32],
+    part: u32,
+    memory: Term,
+    address: Term,
+    count: u32,
+) -> Result<(), AllocError>
+    requires { HasSymbols (length numbers.now) part }
+    ensures { OnOk result (string_bytes out.new
+        ≡ string_bytes out.old ++ written (commands.taking (commands.memory_in numbers.now part) memory.0 address.0 count)) }
+{
+    if count == 0 {
+        let memory = memory.0;
+        return write!(out, "t{memory}");
+    }
+    out.push_str("(store ")?;
+    push_take(out, numbers, part, memory, address, count - 1)?;
+    out.push_str(" ")?;
+    push_behind(out, address, count - 1)?;
+    out.push_str(" ")?;
+    push_taken(out, numbers, part, address, count - 1)?;
     out.push_str(")")
 }
 
@@ -269,7 +314,7 @@ fn push_complement(out: &mut String, term: Term) -> Result<(), AllocError>
     write!(out, "(bvnot t{term})")
 }
 
-/// Appends the term of a node that picks one of two terms, loads or stores.
+/// Appends the term of a node that picks one of two terms, loads, stores or takes.
 fn push_compound(
     out: &mut String,
     form: Layout,
@@ -305,6 +350,12 @@ fn push_compound(
             when_true,
             when_false,
         } => push_choice(out, condition, when_true, when_false),
+        Node::Take {
+            bytes,
+            memory,
+            address,
+            part,
+        } => push_take(out, numbers, part, memory, address, bytes),
         _ => unreachable!(),
     }
 }
@@ -320,11 +371,11 @@ pub fn push_node(
     ensures { OnOk result (string_bytes out.new ≡ string_bytes out.old ++ written (commands.node_term (layout_of form) numbers.now (node_of node))) }
 {
     match node {
-        Node::Register { part, number } => push_register(out, form, part, number),
-        Node::Flag { part, number } => push_flag(out, form, part, number),
+        Node::Register { part, number } => push_register_in(out, form, numbers, part, number),
+        Node::Flag { part, number } => push_flag_in(out, form, numbers, part, number),
         Node::Choice(place) => push_symbol(out, numbers, place),
         Node::Base { .. } => push_byte(out, 0),
-        Node::Memory(part) => push_memory(out, part),
+        Node::Memory(part) => push_memory_in(out, numbers, part),
         Node::Constant { width, value } => push_constant(out, width, value),
         Node::Binary {
             op,
@@ -345,5 +396,6 @@ pub fn push_node(
         Node::Load { .. } => push_compound(out, form, numbers, node),
         Node::Store { .. } => push_compound(out, form, numbers, node),
         Node::Join { .. } => push_compound(out, form, numbers, node),
+        Node::Take { .. } => push_compound(out, form, numbers, node),
     }
 }

@@ -6,7 +6,9 @@ ghost use Rattle.word_spec.specs.Memory.{Little};
 ghost use Rattle.machine_spec.specs.StateText.{arm_layout};
 ghost use Rattle.start_value.specs.Starts.{layout_of};
 ghost use Rattle.smtlib_print.specs.Commands as commands;
-ghost use Rattle.smtlib_print.specs.Commands.{binary_digits, constant_text, memory_name, part_name, part_prefix};
+ghost use Rattle.smtlib_print.specs.Commands.{binary_digits, constant_text, memory_in, memory_name, name_in, part_name, part_prefix, prefix_in};
+ghost use Rattle.frame_spec.specs.FrameScripts.{given_prefix};
+ghost use Rattle.smtlib_print.specs.Printable.{HasSymbols};
 ghost use Rattle.smtlib_print.specs.Written.{written};
 
 use start_value::Layout;
@@ -107,8 +109,27 @@ fn push_part(out: &mut String, part: u32) -> Result<(), AllocError>
     out.push_str("h_")
 }
 
+/// Appends what symbols of what the contract step of the point of a number is given begin with.
+pub fn push_given_prefix(out: &mut String, number: u32) -> Result<(), AllocError>
+    ensures { OnOk result (string_bytes out.new ≡ string_bytes out.old ++ given_prefix number) }
+{
+    write!(out, "g{number}_")
+}
+
+/// Appends what symbols of any part begin with; that of what the contract step of a place is given is two above the place, whose point has a number.
+fn push_prefix(out: &mut String, numbers: &[u32], part: u32) -> Result<(), AllocError>
+    requires { HasSymbols (length numbers.now) part }
+    ensures { OnOk result (string_bytes out.new ≡ string_bytes out.old ++ prefix_in numbers.now part) }
+{
+    if part < 2 {
+        return push_part(out, part);
+    }
+    let place = part as usize - 2;
+    push_given_prefix(out, numbers[place])
+}
+
 /// Appends the name of a register.
-fn push_register_name(out: &mut String, form: Layout, register: u8) -> Result<(), AllocError>
+pub fn push_register_name(out: &mut String, form: Layout, register: u8) -> Result<(), AllocError>
     requires first { (layout_of form).first ≤ register }
     requires last { register < (layout_of form).first + length (layout_of form).registers }
     ensures { OnOk result (string_bytes out.new ≡ string_bytes out.old ++ slice_index_or (layout_of form).registers (register - (layout_of form).first) []) }
@@ -133,7 +154,7 @@ fn arm_flag(flag: u8) -> &'static str
 }
 
 /// The name of a flag.
-fn flag_name(form: Layout, flag: u8) -> &'static str
+pub fn flag_name(form: Layout, flag: u8) -> &'static str
     requires { flag < length (layout_of form).flags }
     ensures { result.now ≡ slice_index_or (layout_of form).flags (length (layout_of form).flags - 1 - flag) [] }
 {
@@ -143,7 +164,7 @@ fn flag_name(form: Layout, flag: u8) -> &'static str
     }
 }
 
-/// Appends the symbol of a register of a part.
+/// Appends the symbol of a register of the entry's part or the head's.
 pub fn push_register(
     out: &mut String,
     form: Layout,
@@ -159,7 +180,7 @@ pub fn push_register(
     push_register_name(out, form, register)
 }
 
-/// Appends the symbol of a flag of a part.
+/// Appends the symbol of a flag of the entry's part or the head's.
 pub fn push_flag(out: &mut String, form: Layout, part: u32, flag: u8) -> Result<(), AllocError>
     requires { flag < length (layout_of form).flags }
     ensures { OnOk result (string_bytes out.new
@@ -169,10 +190,54 @@ pub fn push_flag(out: &mut String, form: Layout, part: u32, flag: u8) -> Result<
     out.push_str(flag_name(form, flag))
 }
 
-/// Appends the symbol of a part's memory.
+/// Appends the symbol of the memory of the entry's part or the head's.
 pub fn push_memory(out: &mut String, part: u32) -> Result<(), AllocError>
     ensures { OnOk result (string_bytes out.new ≡ string_bytes out.old ++ memory_name part) }
 {
     push_part(out, part)?;
+    out.push_str("mem")
+}
+
+/// Appends the symbol of a register of any part.
+pub fn push_register_in(
+    out: &mut String,
+    form: Layout,
+    numbers: &[u32],
+    part: u32,
+    register: u8,
+) -> Result<(), AllocError>
+    requires part { HasSymbols (length numbers.now) part }
+    requires first { (layout_of form).first ≤ register }
+    requires last { register < (layout_of form).first + length (layout_of form).registers }
+    ensures { OnOk result (string_bytes out.new
+        ≡ string_bytes out.old ++ name_in numbers.now part (slice_index_or (layout_of form).registers (register - (layout_of form).first) [])) }
+{
+    push_prefix(out, numbers, part)?;
+    push_register_name(out, form, register)
+}
+
+/// Appends the symbol of a flag of any part.
+pub fn push_flag_in(
+    out: &mut String,
+    form: Layout,
+    numbers: &[u32],
+    part: u32,
+    flag: u8,
+) -> Result<(), AllocError>
+    requires part { HasSymbols (length numbers.now) part }
+    requires flag { flag < length (layout_of form).flags }
+    ensures { OnOk result (string_bytes out.new
+        ≡ string_bytes out.old ++ name_in numbers.now part (slice_index_or (layout_of form).flags (length (layout_of form).flags - 1 - flag) [])) }
+{
+    push_prefix(out, numbers, part)?;
+    out.push_str(flag_name(form, flag))
+}
+
+/// Appends the symbol of the memory of any part.
+pub fn push_memory_in(out: &mut String, numbers: &[u32], part: u32) -> Result<(), AllocError>
+    requires { HasSymbols (length numbers.now) part }
+    ensures { OnOk result (string_bytes out.new ≡ string_bytes out.old ++ memory_in numbers.now part) }
+{
+    push_prefix(out, numbers, part)?;
     out.push_str("mem")
 }

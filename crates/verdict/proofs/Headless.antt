@@ -43,7 +43,7 @@ use Rattle.call_form.specs.declared.kind.Kind.TheVariants as kinds
 use Rattle.call_form.specs.declared.kind.Asked.{Asked}
 use Rattle.cnf_form.specs.Views.{proof_of}
 use Rattle.cnf_form.specs.declared.form.Proof.{Proof}
-use Rattle.start_value.specs.Starts.{layout_of, written_of}
+use Rattle.start_value.specs.Starts.{layout_of}
 use Rattle.question_form.specs.Asked.{asked_of, frame_question}
 use Rattle.question_form.specs.Forms.{AreRootsFormed}
 use Rattle.question_form.specs.FrameQuestions.{frame_passive_of}
@@ -59,7 +59,7 @@ use Rattle.known_bytes.specs.Runs.{AreRuns}
 use Rattle.passify.specs.Made.{IsPassiveOf}
 use Rattle.passify.proofs.Headless.{frame_walkable}
 use Rattle.unroller.specs.RootPoints.{BeginAtOwn, IsEntryFirst, root_of_point}
-use Rattle.frame_start.specs.Segments.{IsFrameAskable}
+use Rattle.frame_start.specs.Segments.{IsFrameAskable, written_parts}
 use Rattle.frame_start.specs.declared.meaning.Segments.{Segments}
 use Rattle.frame_rounds.specs.FrameGrounds.{AnswersFrame, AreSegments, IsFrameGround, RulesOut, ShowsStart, shown_at}
 use Rattle.frame_rounds.specs.FrameRounds.{IsFrameDecided}
@@ -149,10 +149,10 @@ module _ (u : Unrolled) (h : IsHeadless u) where
 
     module _ (s : Segments) where
       abbrev its : Shown
-      its = shown_of (written_of s.parts.entry) (written_of s.parts.head) AtEntry (entry_shown s).choices
+      its = shown_of (written_parts s.parts) AtEntry (entry_shown s).choices []
 
       shown_is : shown_at u s 0 ≡ its
-      shown_is = ap (λ (z : Anchor). shown_of (written_of s.parts.entry) (written_of s.parts.head) z (entry_shown s).choices) (entry_anchor u first_is)
+      shown_is = ap (λ (z : Anchor). shown_of (written_parts s.parts) z (entry_shown s).choices []) (entry_anchor u first_is)
 
       abbrev start : Start
       start = shown_start (headless_whole p) f own_form its

@@ -36,10 +36,14 @@ pub struct Decided {
 }
 
 /// The start that is shown of the one segment of a program: the entry, with the choices of the segment.
-fn start_shown(alloc: Global, segments: Segments) -> Start
+pub fn start_shown(alloc: Global, segments: Segments) -> Start
     ensures { length segments.choices.items ≡ 1 → written_of result ≡ entry_shown segments }
 {
-    let Segments { parts, mut choices } = segments;
+    let Segments {
+        parts,
+        mut choices,
+        ..
+    } = segments;
     let choices = match choices.pop() {
         Some(choices) => choices,
         None => Vec::new(alloc),

@@ -12,7 +12,7 @@ mod verifying;
 
 pub use call_form::Budget;
 pub use certifying::certify;
-pub use deciding::asked_next;
+pub use deciding::{asked_next, start_shown};
 pub use measuring::{Measured, measure, unroll_within};
 pub use scripting::script;
 pub use shown::Function;

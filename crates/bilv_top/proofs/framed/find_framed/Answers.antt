@@ -5,13 +5,14 @@ use Rattle.notes_spec.specs.FrameNotes.{IsFrameText}
 use Rattle.notes_spec.specs.NotesFaults.{IsFirstNoteFault}
 use Rattle.notes_spec.specs.Programs.{vocabulary_of}
 use Rattle.notes_spec.specs.Scopes.{in_dialect}
+use Rattle.notes_lang.specs.Framed.{frame_notes_of}
 use Rattle.notes_lang.specs.Judging.{fault_of}
+use Rattle.notes_lang.specs.Parsing.{layout_vocabulary}
 use Rattle.notes_lang.specs.declared.notes.Dialect.TheVariants.{Plain}
 use Rattle.notes_value.specs.NoteViews.{notes_of}
-use Rattle.framed_notes.specs.Headed.{framed_of}
 use Rattle.bilv_top.specs.Answers.{answer_of}
 use Rattle.bilv_top.proofs.Refused.{line_answered, name_answered}
-use Rattle.bilv_top.proofs.Segments.{framed_found}
+use Rattle.bilv_top.proofs.Segments.{framed_found, uncontracted}
 use Rattle.bilv_top.proofs.framed.find_framed.Goals as goal
 
 pub returns-in-Err-Fault : goal.returns-in-Err-Fault
@@ -29,10 +30,12 @@ returns-in-Err-Fault c =
 
 pub returns-in-Ok-entry_of : goal.returns-in-Ok-entry_of
 returns-in-Ok-entry_of c =
-    let read = c.in-Ok.ensures in (
+    let read = c.in-Ok.ensures in
+    let bytes = c.deref.result.now in
+    let said = uncontracted (layout_vocabulary c.layout.result Plain) bytes (frame_notes_of c.in-Ok.read) (read.said Plain) in (
       refl,
-      framed_found (options_of c.args.options) c.args.image.now c.deref.result.now c.layout.result Plain _ (c.layout.ensures.vocabulary Plain)
-          c.layout.ensures.registers c.layout.ensures.flags c.deref.ensures.value (read.said Plain) c.in-Ok-entry_of.ensures read.rising read.readable read.over,
+      framed_found (options_of c.args.options) c.args.image.now bytes c.layout.result Plain _ (c.layout.ensures.vocabulary Plain)
+          c.layout.ensures.registers c.layout.ensures.flags c.deref.ensures.value said c.in-Ok-entry_of.ensures read.rising read.readable read.over,
     )
 
 pub returns-in_ok-refuse_name-in-Err : goal.returns-in_ok-refuse_name-in-Err
@@ -41,7 +44,7 @@ returns-in_ok-refuse_name-in-Err c =
     let o = options_of c.args.options in
     let file = c.args.image.now in
     let bytes = c.deref.result.now in
-    let n = framed_of c.in-Ok.read in
+    let n = frame_notes_of c.in-Ok.read in
     let said = subst (λ v. IsFrameText (in_dialect (dialect_for bytes) v) bytes n) (c.layout.ensures.vocabulary Plain) (c.in-Ok.ensures.said Plain) in
     let is = subst (λ t. IsFrameText (in_dialect (dialect_for t) (vocabulary_of o file)) t n) c.deref.ensures.value said in
     name_answered (dialect_for c.args.text.items) o file c.args.text.items notes c.in-Err.fault (answer_of c.in_ok-refuse_name-in-Err.field-0)

@@ -1,8 +1,13 @@
+use Rattle.frame_terms.proofs.CountedStores.{gift_stores}
+use Rattle.question_form.specs.FrameQuestions.{frame_of_question}
 use Rattle.sat_core.specs.declared.answer.Answer.TheVariants as search
 use Rattle.frame_rounds.specs.declared.answers.FrameAnswered.TheVariants as answer
 use Rattle.frame_rounds.specs.declared.rounds.Round.TheVariants.{Answered}
 use Rattle.frame_rounds.proofs.FrameJudging.{layers, of_question, said, satisfied, round_refuted, round_spent, one_byte, round_judged}
 use Rattle.frame_rounds.proofs.rounds.one_round.Goals as goal
+
+pub frame_cells-requires-clause-gifts : goal.frame_cells-requires-clause-gifts
+frame_cells-requires-clause-gifts c = gift_stores (frame_of_question c.args.question.now) c.requires.askable.walkable
 
 pub judge_values-requires-clause-one : goal.judge_values-requires-clause-one
 judge_values-requires-clause-one c =

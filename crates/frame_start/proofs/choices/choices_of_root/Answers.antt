@@ -1,7 +1,8 @@
 use Rattle.std.proofs.Common.{ℕ, List, sym, subst}
 use Rattle.frame_spec.specs.FrameWalk.{root_at}
 use Rattle.frame_terms.specs.FrameStarts.{AreChoices}
-use Rattle.start_value.specs.Starts.{layout_of, written_of}
+use Rattle.start_value.specs.Starts.{layout_of}
+use Rattle.frame_start.specs.Segments.{written_parts}
 use Rattle.question_form.specs.FrameQuestions.{is_of_heads}
 use Rattle.mem_cells.specs.FrameViews.{frame_of_cells}
 use Rattle.frame_start.proofs.RootChoices.{chosen_are, met_inside, met_long}
@@ -11,8 +12,8 @@ pub returns-then-not-met : goal.returns-then-not-met
 returns-then-not-met c values p met written x hx =
     let k = c.args.c.now in
     subst (λ (xs : List (ℕ × ℕ)). AreChoices (frame_of_cells k) (is_of_heads k.question.now) (layout_of k.question.now.passive.now.unrolled.now.form) x
-    (written_of p.entry) (written_of p.head) (root_at (frame_of_cells k) c.args.root) xs) (sym c.new.ensures.items)
-    (met.none c.if-not-met.true c.args.root x hx)
+    (written_parts p) (root_at (frame_of_cells k) c.args.root) xs) (sym c.new.ensures.items)
+    (met.no_choices c.if-not-met.true c.args.root x hx)
 
 pub choices_by_step-requires-clause-points : goal.choices_by_step-requires-clause-points
 choices_by_step-requires-clause-points c =
@@ -31,7 +32,7 @@ returns-then-can_be_shown c values p met written =
       c.deref-then-can_be_shown-2.ensures.value,
       c.deref-then-can_be_shown-3.ensures.value,
     ) at c.in_ok-choices.ensures in
-    chosen_are c.args.c.now c.requires.askable values (written_of p.entry) (written_of p.head) c.args.root c.requires.within written
+    chosen_are c.args.c.now c.requires.askable values (written_parts p) c.args.root c.requires.within written
     c.args.met.now.words.items (met.words c.if-not-met.false) c.args.met.now.choices.items (met.choices c.if-not-met.false) c.in_ok-choices.choices.items h
 
 pub returns : goal.returns

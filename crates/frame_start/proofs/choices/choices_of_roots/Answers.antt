@@ -1,11 +1,11 @@
 use Rattle.std.proofs.Common.{◌≡◌, ℕ, length, subst, arith}
-use Rattle.frame_start.specs.Segments.{AreChoicesTo}
-use Rattle.frame_start.proofs.SegmentLists.{choices_more}
+use Rattle.frame_start.specs.Segments.{AreChoicesOf, AreChoicesTo}
+use Rattle.frame_start.proofs.SegmentLists.{each_more}
 use Rattle.frame_start.proofs.choices.choices_of_roots.Goals as goal
 
 pub loop-root-preserved : goal.loop-root-preserved
 loop-root-preserved c values p met =
-    choices_more c.args.c.now values p c.loop-root.root c.loop-root.choices.items c.push.new.self.items c.in_ok-choices_of_root.field-0
+    each_more (AreChoicesOf c.args.c.now values p) c.loop-root.root c.loop-root.choices.items c.push.new.self.items c.in_ok-choices_of_root.field-0
     (c.loop-root.invariant values p met) c.in_ok-push.ensures.items (c.in_ok-choices_of_root.ensures values p met)
 
 pub returns : goal.returns

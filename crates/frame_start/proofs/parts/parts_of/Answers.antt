@@ -1,4 +1,3 @@
-use Rattle.start_value.specs.Starts.{written_of}
 use Rattle.frame_start.proofs.WrittenParts.{entry_one, head_one, parts_are}
 use Rattle.frame_start.proofs.parts.parts_of.Goals as goal
 
@@ -24,5 +23,5 @@ returns c =
     let first = rw (c.deref.ensures.value) at c.in_ok-bytes.ensures in
     let second = rw (c.deref-2.ensures.value) at (c.in_ok-bytes-2).ensures in
     parts_are e.celled.now e.values.now c.requires.formed e.places c.requires.evaluated.placed e.reads c.requires.evaluated.reads c.requires.whole
-    (written_of c.in_ok-entry.entry) (written_of c.in_ok-head.head) c.in_ok-bytes.bytes.items (c.in_ok-bytes-2).bytes.items first second
-    c.in_ok-entry.ensures c.in_ok-head.ensures
+    (record { entry = c.in_ok-entry.entry; head = c.in_ok-head.head; gifts = c.in_ok-gifts.gifts }) c.in_ok-bytes.bytes.items
+    (c.in_ok-bytes-2).bytes.items first second c.in_ok-entry.ensures c.in_ok-head.ensures c.in_ok-gifts.ensures

@@ -8,5 +8,5 @@ returns-clause-unrolled g c =
     let is = c.unroll_frame.ensures in
     unrolled_within c.args.image.now (notes_of c.args.notes.now) c.args.entry c.args.invariants.now g.M.Machine.machine g.M.Machine.form
     (budget_of c.args.budget.now) g.met.M.Machine.lawful g.met.M.Machine.fitted c.bytes.ensures c.requires.over c.places_are_words.ensures
-    c.ranges.entry.fits c.requires.place c.args.budget.now.in_range.points.1 c.unroll_frame.result is.unrolled is.formed is.roots is.heads is.few is.form
+    c.ranges.entry.fits c.requires.place c.args.budget.now.in_range.points.1 c.unroll_frame.result is.unrolled is.formed is.roots is.steps is.heads is.few is.form
     is.addresses is.layout is.runs is.beyond is.own is.first is.headed

@@ -1,5 +1,7 @@
 use Rattle.std.proofs.Common.{◌<◌, inl, inr, length, refl, ap, ◌∙◌, arith}
-use Rattle.mem_cells.proofs.Growing.{grown_none, grown_more, mapped_length}
+use Rattle.mem_cells.specs.Parts.{lists_of}
+use Rattle.mem_cells.proofs.PartReads.{parts_here}
+use Rattle.mem_cells.proofs.Growing.{mapped_length}
 use Rattle.mem_cells.proofs.Agreements.{mapped_at, read_width}
 use Rattle.mem_cells.proofs.Asks.{asked_one, asked_none_of, asked_unread}
 use Rattle.mem_cells.proofs.asking.ask.Goals as goal
@@ -23,7 +25,7 @@ pub returns-then-is_zero-clause-asked : goal.returns-then-is_zero-clause-asked
 returns-then-is_zero-clause-asked c =
     let a = c.args.build.now in
     let l : c.args.read < length a.addresses.items = omega (arith, c.requires.read, mapped_length a.addresses.items) in
-    asked_none_of a c.make.new.self 32 c.args.parts.now c.args.file.now c.args.asked.now.items c.index-left.result.now.0 c.args.address.0 c.args.place
+    asked_none_of a c.make.new.self 32 (lists_of c.args.parts.now) c.args.file.now c.args.asked.now.items c.index-left.result.now.0 c.args.address.0 c.args.place
     c.args.read
     c.in_ok-condition.condition.0 c.requires.built
     c.in_ok-condition.ensures.grown c.requires.read (ap (λ z. z.0) c.index-left.ensures ∙ mapped_at a.addresses.items c.args.read _ l) c.requires.address
@@ -34,8 +36,9 @@ pub returns-clause-asked : goal.returns-clause-asked
 returns-clause-asked c =
     let a = c.args.build.now in
     let l : c.args.read < length a.addresses.items = omega (arith, c.requires.read, mapped_length a.addresses.items) in
-    asked_one a c.make.new.self 32 c.args.parts.now c.args.file.now c.args.asked.now.items _ _ c.parts_for-asked_parts.result c.index-left.result.now.0
-    c.args.address.0 c.args.place c.args.read c.requires.built c.in_ok-condition.ensures.grown c.in_ok-ask_parts.ensures c.parts_for-asked_parts.ensures
+    asked_one a c.make.new.self 32 (lists_of c.args.parts.now) c.args.file.now c.args.asked.now.items _ _ _ c.index-left.result.now.0
+    c.args.address.0 c.args.place c.args.read c.requires.built c.in_ok-condition.ensures.grown c.in_ok-ask_parts.ensures
+    (parts_here c.args.parts.now c.args.read _ _ c.deref-2.ensures.value c.index-parts-read-2.is (omega (arith, c.requires.read, c.requires.parts)))
     c.requires.place c.requires.read (ap (λ z. z.0) c.index-left.ensures ∙ mapped_at a.addresses.items c.args.read _ l) c.requires.address
     c.in_ok-condition.ensures.word c.requires.asked
 
@@ -45,11 +48,8 @@ returns-clause-kept c p j h = elim (c.in_ok-condition.ensures.parts p j h) [ inl
 pub returns-then-is_zero-clause-kept : goal.returns-then-is_zero-clause-kept
 returns-then-is_zero-clause-kept c p j h = elim (c.in_ok-condition.ensures.parts p j h) [ inl k ↦ k | inr e ↦ absurd (cc) ]
 
-pub returns-then-is_none-clause-grown : goal.returns-then-is_none-clause-grown
-returns-then-is_none-clause-grown c = grown_more c.args.build.now c.args.build.now 0 0 32 0 (omega arith) (omega arith)
-    (grown_none c.args.build.now c.requires.built)
-
-pub returns-then-is_none-clause-asked : goal.returns-then-is_none-clause-asked
-returns-then-is_none-clause-asked c =
-    asked_unread c.args.build.now c.args.parts.now c.args.file.now c.args.asked.now.items c.parts_for-asked_parts.result c.args.place c.args.read
-    c.parts_for-asked_parts.ensures (c.is_none.ensures c.if-is_none.true) c.requires.asked
+pub returns-then-not-is_asked_of-clause-asked : goal.returns-then-not-is_asked_of-clause-asked
+returns-then-not-is_asked_of-clause-asked c =
+    asked_unread c.args.build.now (lists_of c.args.parts.now) c.args.file.now c.args.asked.now.items _ c.args.place c.args.read
+    (parts_here c.args.parts.now c.args.read _ _ c.deref.ensures.value c.index-parts-read.is (omega (arith, c.requires.read, c.requires.parts)))
+    (c.is_asked_of.ensures c.if-not-is_asked_of.true) c.requires.asked

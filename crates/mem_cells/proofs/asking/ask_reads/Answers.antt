@@ -1,6 +1,7 @@
 use Rattle.std.proofs.Common.{◌≡◌, inl, inr, ℕ, ◌+◌, ◌*◌, length, take, ap, subst, arith}
 use Rattle.mem_cells.specs.Building.{read_places}
 use Rattle.mem_cells.specs.Asked.{file_byte_at, AreAsked, AskedTo}
+use Rattle.mem_cells.specs.Parts.{lists_of}
 use Rattle.mem_cells.proofs.Growing.{grown_on, grown_more}
 use Rattle.mem_cells.proofs.Agreements.{same_reads}
 use Rattle.mem_cells.proofs.Asks.{asked_row, asked_all, word_kept}
@@ -11,7 +12,7 @@ loop-read-init c = record {
   grown = c.in_ok-address.ensures.grown;
   address = c.in_ok-address.ensures.word;
   kept = λ p j h. elim (c.in_ok-address.ensures.parts p j h) [ inl k ↦ k | inr e ↦ absurd (cc) ];
-  said = asked_row c.args.build.now c.make.new.self 0 c.args.parts.now c.args.file.now c.args.asked.now.items (file_byte_at c.args.file.now c.args.place)
+  said = asked_row c.args.build.now c.make.new.self 0 (lists_of c.args.parts.now) c.args.file.now c.args.asked.now.items (file_byte_at c.args.file.now c.args.place)
       (take c.args.place c.args.file.now) c.requires.built
       c.in_ok-address.ensures.grown c.requires.asked;
 }
@@ -44,6 +45,6 @@ returns-clause-asked c =
       ap length
           (same_reads a b (32 * n) c.loop-read.invariant.grown),
     ) in
-    asked_all b c.args.parts.now file c.loop-read.asked.items k c.requires.place
-    (subst (λ (z : ℕ). AreAsked b c.args.parts.now file c.loop-read.asked.items
+    asked_all b (lists_of c.args.parts.now) file c.loop-read.asked.items k c.requires.place
+    (subst (λ (z : ℕ). AreAsked b (lists_of c.args.parts.now) file c.loop-read.asked.items
     (AskedTo (length (read_places b)) (take k file) (file_byte_at file k) z)) e c.loop-read.invariant.said)

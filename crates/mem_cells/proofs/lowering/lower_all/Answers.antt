@@ -10,7 +10,7 @@ loop-place-init c =
     record {
       question = refl;
       lowered = start_lowered (source_of a) a _ _ _ _ c.requires.typed c.requires.nodes c.requires.reads c.in_ok-with_capacity.ensures.items
-          c.in_ok-with_capacity-2.ensures.items c.new.ensures.items c.in_ok-entries.ensures;
+          c.in_ok-with_capacity-2.ensures.items c.new-2.ensures.items c.new.ensures.items;
     }
 
 pub lower-requires-clause-next : goal.lower-requires-clause-next

@@ -2,6 +2,7 @@ use Rattle.std.proofs.Common.{◌≡◌, inl, inr, List, ℕ, ◌-◌, ◌*◌, 
 use Rattle.mem_cells.specs.declared.cells.Agreement.{Agreement}
 use Rattle.mem_cells.specs.Building.{Grown, read_places}
 use Rattle.mem_cells.specs.Ties.{AreTies, Before}
+use Rattle.mem_cells.specs.Parts.{lists_of}
 use Rattle.mem_cells.proofs.Growing.{grown_on, mapped_length}
 use Rattle.mem_cells.proofs.Agreements.{same_reads, sums_kept, one_row_more, ties_none}
 use Rattle.mem_cells.proofs.ties.agreements.Goals as goal
@@ -12,8 +13,8 @@ loop-other-init c = record {
   count = c.in_ok-sums.ensures.count;
   sums = c.in_ok-sums.ensures.sums;
   kept = λ p j h. elim (c.in_ok-zero.ensures.parts p j h) [ inl k ↦ k | inr e ↦ absurd (cc) ];
-  ties = subst (λ (z : List Agreement). AreTies c.make.new.self c.args.parts.now z (Before 0 0)) (sym c.new-agrees.ensures.items)
-      (ties_none c.make.new.self c.args.parts.now);
+  ties = subst (λ (z : List Agreement). AreTies c.make.new.self (lists_of c.args.parts.now) z (Before 0 0)) (sym c.new-agrees.ensures.items)
+      (ties_none c.make.new.self (lists_of c.args.parts.now));
 }
 
 pub loop-other-preserved : goal.loop-other-preserved
@@ -54,4 +55,4 @@ returns-clause-ties c =
     let n = c.loop-other.other in
     let i = c.loop-other.invariant in
     let e : n ≡ length (read_places b) = omega (arith, mapped_length c.make.new.self.addresses.items, i.count, c.in_ok-sums.ensures.count) in
-    subst (λ (z : ℕ). AreTies b c.args.parts.now c.loop-other.agrees.items (Before z 0)) e i.ties
+    subst (λ (z : ℕ). AreTies b (lists_of c.args.parts.now) c.loop-other.agrees.items (Before z 0)) e i.ties

@@ -1,5 +1,6 @@
 use Rattle.std.proofs.Common.{◌≡◌, ◌+◌, ◌*◌, subst, arith}
 use Rattle.mem_cells.specs.Ties.{AreTies, Before}
+use Rattle.mem_cells.specs.Parts.{lists_of}
 use Rattle.mem_cells.proofs.Growing.{grown_on, grown_more}
 use Rattle.mem_cells.proofs.Agreements.{sums_kept, ties_fewer, whole_row}
 use Rattle.mem_cells.proofs.ties.row.Goals as goal
@@ -10,8 +11,8 @@ tie-requires-clause-sums c = sums_kept c.args.build.now c.loop-read.build _ c.ar
 pub returns-clause-ties : goal.returns-clause-ties
 returns-clause-ties c =
     let z : c.loop-read.read ≡ c.args.other = omega arith in
-    ties_fewer c.loop-read.build c.args.parts.now _ (Before c.args.other c.args.other) (Before (c.args.other + 1) 0) (whole_row c.args.other)
-    (subst (λ k. AreTies c.loop-read.build c.args.parts.now c.loop-read.agrees.items (Before c.args.other k)) z c.loop-read.invariant.ties)
+    ties_fewer c.loop-read.build (lists_of c.args.parts.now) _ (Before c.args.other c.args.other) (Before (c.args.other + 1) 0) (whole_row c.args.other)
+    (subst (λ k. AreTies c.loop-read.build (lists_of c.args.parts.now) c.loop-read.agrees.items (Before c.args.other k)) z c.loop-read.invariant.ties)
 
 pub loop-read-preserved : goal.loop-read-preserved
 loop-read-preserved c =

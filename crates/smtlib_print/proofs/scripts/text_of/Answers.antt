@@ -12,7 +12,7 @@ pub returns-clause-text : goal.returns-clause-text
 returns-clause-text c =
     let v = c.args.question.now.passive.now.unrolled.now in
     let kept = map kept_of v.kept.now in
-    script_parts (source_of c.args.question.now c.args.heads c.args.numbers.now) c.nodes-count.result (string_bytes c.new-out.result)
+    script_parts (source_of c.args.question.now c.args.heads c.args.steps c.args.numbers.now) c.nodes-count.result (string_bytes c.new-out.result)
     (string_bytes c.push_head.new.out)
     (string_bytes c.push_definitions.new.out) (string_bytes c.push_root.new.out) (string_bytes c.push_file.new.out) (string_bytes c.push_check.new.out)
     c.new-out.ensures.bytes
@@ -20,5 +20,5 @@ returns-clause-text c =
     (c.in_ok-push_file.ensures.text
     ∙ ap (λ b. string_bytes c.push_root.new.out ++ commands_text (file_assertions b kept (map run_of c.deref.result.now))) c.is_head_asked.ensures
     ∙ ap (λ (runs : List Known). string_bytes c.push_root.new.out
-    ++ commands_text (file_assertions (source_of c.args.question.now c.args.heads c.args.numbers.now).asks_head kept (map run_of runs))) c.deref.ensures.value)
+    ++ commands_text (file_assertions (source_of c.args.question.now c.args.heads c.args.steps c.args.numbers.now).asks_head kept (map run_of runs))) c.deref.ensures.value)
     c.in_ok-push_check.ensures

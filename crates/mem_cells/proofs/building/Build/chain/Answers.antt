@@ -3,7 +3,7 @@ use Rattle.std.specs.Prelude.{sum_by}
 use Rattle.std.proofs.lemmas.List.Sums.{sum_by-take-le}
 use Rattle.mem_cells.specs.declared.pieces.Piece.TheVariants.{Entry}
 use Rattle.mem_cells.specs.declared.building.Build.{Build}
-use Rattle.mem_cells.specs.Pieces.{piece_gates, piece_at}
+use Rattle.mem_cells.specs.Pieces.{part_read, piece_gates, piece_at}
 use Rattle.mem_cells.specs.Building.{Grown}
 use Rattle.term_dag.proofs.ListLaws.{longer}
 use Rattle.mem_cells.proofs.Growing.{grown_on, grown_more, number_kept}
@@ -27,7 +27,8 @@ pub step-requires-clause-number : goal.step-requires-clause-number
 step-requires-clause-number c p e =
     let ps = c.args.memories.now.pieces.items in
     number_kept c.args.self.now c.loop-q.self _ _ c.args.address.0 c.args.number c.loop-q.invariant.grown
-    (c.requires.number c.loop-q.q p (omega arith) c.if-marks-q.true (sym (c.index.ensures ∙ any_default ps c.loop-q.q _ (Entry 0) (omega arith)) ∙ e))
+    (c.requires.number c.loop-q.q p (omega arith) c.if-marks-q.true
+    (ap (part_read c.args.at) (sym (c.index.ensures ∙ any_default ps c.loop-q.q _ (Entry 0) (omega arith))) ∙ e))
 
 pub loop-q-preserved : goal.loop-q-preserved
 loop-q-preserved c =

@@ -1,0 +1,9 @@
+use Rattle.std.proofs.Common.{◌∙◌}
+use Rattle.clause_spec.specs.Clauses.{valuation}
+use Rattle.bit_blast.proofs.InputNumbers.{bits_are}
+use Rattle.frame_start.proofs.gifts.register_at.Goals as goal
+
+pub returns : goal.returns
+returns c x at =
+    c.number_at.ensures.value ∙ bits_are (valuation c.args.values.now) c.first_input-first.result 32
+    ∙ c.first_input-first.ensures.value (valuation c.args.values.now) x at

@@ -1,0 +1,11 @@
+use Rattle.std.proofs.Common.{string_bytes}
+use Rattle.smtlib_print.proofs.GiftTexts.{given_memory_added}
+use Rattle.smtlib_print.proofs.Printed.{on_ok, pushed}
+use Rattle.smtlib_print.proofs.gifts.declare_memory.Goals as goal
+
+pub returns : goal.returns
+returns c =
+    on_ok c.push_str-2.result _ _ (given_memory_added (string_bytes c.args.out.now) (string_bytes c.push_str.new.self)
+    (string_bytes c.push_given_prefix.new.out) (string_bytes c.push_str-2.new.self) c.args.number c.args.writes c.if-not-writes.false
+    c.in_ok-push_str.ensures.bytes c.in_ok-push_given_prefix.ensures)
+    (pushed c.push_str-2.result (string_bytes c.push_str-2.new.self) _ _ c.push_str-2.ensures.bytes)
