@@ -16,6 +16,7 @@ use Rattle.bit_blast.specs.Laid.{ArePartReads, IsFlat}
 pub flat_places : (c : Celled) → frame_cells_of c ≡ as_cells (cells_of c) → IsHeadless c.question.now.passive.now.unrolled.now → IsFlat c
 flat_places c flat headless = record {
   heads = headless.heads;
+  deeds = headless.deeds;
   reads = ap (λ z. z.reads) flat ∙ ap (λ n. map as_read (from_to 0 n)) (length-map c.addresses.items (λ t. t.0));
 }
 
@@ -39,9 +40,7 @@ module _ (n : ℕ) (reads : List BaseRead) (are : reads ≡ map as_read (from_to
         let r = read_at q.0 0 j (h.right j q.0 q.1) in
         q.1 ∙ ap Some (sym r.2)
 
-    pub entry_only : ArePartReads 0 n reads places → (j k : ℕ) → slice_index_or places j None ≡ Some k → (k ≡ j) × (j < n)
-    entry_only h j k e =
-        let r = read_at k 0 j (h.right j k e) in (sym r.2, (let l = r.0 in let m = r.2 in omega arith))
-
-    pub none_of : ArePartReads 1 n reads places → (j k : ℕ) → slice_index_or places j None ≡ Some k → ⊥
-    none_of h j k e = let r = read_at k 1 j (h.right j k e) in let s = r.1 in absurd (omega arith)
+    pub entry_only : (part : ℕ) → ArePartReads part n reads places → (j k : ℕ) → slice_index_or places j None ≡ Some k →
+        (part ≡ 0) × (k ≡ j) × (j < n)
+    entry_only part h j k e =
+        let r = read_at k part j (h.right j k e) in (r.1, sym r.2, (let l = r.0 in let m = r.2 in omega arith))

@@ -1,5 +1,5 @@
--- The points of a value as those of its frame: which draw, and that none steps over a call.
-use Rattle.std.proofs.Common.{◌≡◌, refl, ap, sym, ◌∙◌, subst, arith, ℕ, zero, suc, ◌+◌, ◌*◌, ◌<◌, Bool, true, false, List, [], ◌∷◌, Option, Some, None, length, map, if◌then◌else◌}
+-- The points of a value as those of its frame: which draw, and what is given there.
+use Rattle.std.proofs.Common.{◌≡◌, refl, ap, sym, ◌∙◌, subst, arith, ℕ, zero, suc, ◌+◌, ◌*◌, ◌<◌, ◌≤◌, Bool, true, false, List, [], ◌∷◌, Option, Some, None, length, map, if◌then◌else◌}
 use Rattle.std.specs.Prelude.{slice_get, slice_index_or}
 use Rattle.std.specs.Global.{Vec}
 use Rattle.std.proofs.lemmas.List.{length-map}
@@ -8,38 +8,26 @@ use Rattle.word_spec.specs.RowFiles.{from_to}
 use Rattle.walk_spec.specs.Unrolled as tables
 use Rattle.term_spec.specs.ClauseForm.{drawn_below}
 use Rattle.walk_laws.proofs.InputOrder.{passed_below, passed_get, passed_is, passed_length}
-use Rattle.frame_spec.specs.FrameWalk.{Gift, StepsOver, no_point, point_at}
+use Rattle.frame_spec.specs.FrameWalk.{no_point, point_at}
 use Rattle.frame_terms.specs.FrameClauseForm.{drawn_places}
 use Rattle.start_value.specs.Starts.{layout_of}
-use Rattle.bil_ast.specs.declared.statements.Stmt.{Stmt}
-use Rattle.question_form.specs.declared.unrolled.Deed.{Deed}
-use Rattle.question_form.specs.declared.unrolled.Deed.TheVariants as deeds
 use Rattle.question_form.specs.declared.unrolled.Point.{Point}
 use Rattle.question_form.specs.declared.unrolled.Unrolled.{Unrolled}
 use Rattle.question_form.specs.FrameQuestions.{heads_of_question}
-use Rattle.question_form.specs.FrameViews.{action_of, frame_unrolled_of, points_of}
+use Rattle.question_form.specs.FrameViews.{frame_unrolled_of, points_of}
 use Rattle.question_form.specs.Views as views
-use Rattle.question_form.specs.Views.{code_of, unrolled_of}
+use Rattle.question_form.specs.Views.{unrolled_of}
 use Rattle.mem_cells.specs.declared.cells.Celled.{Celled}
 use Rattle.mem_cells.specs.FrameViews.{frame_cells_of, frame_of_cells, read_of}
 use Rattle.mem_cells.specs.Views.{cells_of, program_of_cells}
 use Rattle.bit_blast.specs.declared.input_places.InputPlaces.{InputPlaces}
-use Rattle.bit_blast.specs.Laid.{AreDrawn, AreFramePlaces, ArePartReads, ArePlaces, IsFlat}
-use Rattle.bit_blast.specs.Places.{AreInOrder}
-use Rattle.bit_blast.proofs.Flat.{entry_of, entry_only, none_of, reads_count}
-
--- no point steps over a call
-steps_by : (deed : Deed) (list : Option (Vec Stmt)) (x : Gift) → action_of deed list ≡ StepsOver x → ⊥
-steps_by deeds.Row None x e = absurd (cc)
-steps_by deeds.Row (Some list) x e = absurd (cc)
-steps_by deeds.Arrival list x e = absurd (cc)
+use Rattle.bit_blast.specs.declared.input_places.PartRead.{PartRead}
+use Rattle.bit_blast.specs.Laid.{AreDrawn, AreFramePlaces, AreGifts, ArePlaces, AreReads, IsFlat}
+use Rattle.bit_blast.specs.Places.{AreInOrder, lists_of, reads_of}
+use Rattle.bit_blast.proofs.Flat.{entry_of, entry_only, reads_count}
+use Rattle.bit_blast.proofs.GivenInputs.{no_flag, no_register, nothing_behind}
 
 module _ (v : Unrolled) where
-  no_step : (qs : List Point) (i : ℕ) (x : Gift) → (slice_index_or (points_of v qs) i no_point).does ≡ StepsOver x → ⊥
-  no_step [] i x e = absurd (cc)
-  no_step (q ∷ qs) zero x e = steps_by q.deed (code_of v q).list x e
-  no_step (q ∷ qs) (suc i) x e = no_step qs i x e
-
   draws_same : (qs : List Point) (i : ℕ) →
       (slice_index_or (points_of v qs) i no_point).draws ≡ (slice_index_or (views.points_of v qs) i tables.no_point).draws
   draws_same [] i = refl
@@ -101,19 +89,23 @@ pub record IsLaid (c : Celled) (p : InputPlaces) : Type 0 where
   pub registers : (program_of_cells c).registers ≡ from_to p.first_register p.registers
   pub flags : (program_of_cells c).flags ≡ p.flags
   pub drawn : AreDrawn (program_of_cells c) (length (program_of_cells c).points) p.drawn.items p.choices
+  pub gifts : AreGifts (frame_of_cells c) p.first_gift (length (frame_of_cells c).points) (lists_of p.gift_registers.items) (lists_of p.gift_flags.items)
+      p.first_byte
   pub reads : p.reads ≡ length c.reads.items
-  pub entry : ArePartReads 0 (length c.addresses.items) (map read_of c.reads.items) p.entry_reads.items
-  pub head : ArePartReads 1 (length c.addresses.items) (map read_of c.reads.items) p.head_reads.items
+  pub reads_at : AreReads (length c.addresses.items) (map read_of c.reads.items) (lists_of p.part_reads.items)
 
 module _ (c : Celled) where
   abbrev v : Unrolled
   v = c.question.now.passive.now.unrolled.now
 
-  pub laid : (first registers flags choices reads behind n m : ℕ) (drawn entry head : Vec (Option ℕ)) → first ≡ (layout_of v.form).first →
+  pub laid : (first registers flags choices reads behind last n : ℕ) (drawn : Vec (Option ℕ)) (gift_registers gift_flags : Vec (Vec (Option ℕ)))
+      (part_reads : Vec (Vec PartRead)) → first ≡ (layout_of v.form).first →
       registers ≡ length (layout_of v.form).registers → flags ≡ length (layout_of v.form).flags →
       behind ≡ 32 * registers + flags + (if v.heads then 32 * registers + flags else 0) →
-      AreDrawn (program_of_cells c) (length (program_of_cells c).points) drawn.items choices → reads ≡ length c.reads.items → n ≡ length c.addresses.items →
-      m ≡ length c.addresses.items → ArePartReads 0 n (map read_of c.reads.items) entry.items → ArePartReads 1 m (map read_of c.reads.items) head.items →
+      AreDrawn (program_of_cells c) (length (program_of_cells c).points) drawn.items choices →
+      AreGifts (frame_of_cells c) (behind + 2 * choices) (length (frame_of_cells c).points) (lists_of gift_registers.items) (lists_of gift_flags.items) last →
+      behind + 2 * choices ≤ last → reads ≡ length c.reads.items → n ≡ length c.addresses.items →
+      AreReads n (map read_of c.reads.items) (lists_of part_reads.items) →
       IsLaid c (record {
         first_register = first;
         registers = registers;
@@ -121,24 +113,26 @@ module _ (c : Celled) where
         heads = v.heads;
         drawn = drawn;
         choices = choices;
-        entry_reads = entry;
-        head_reads = head;
+        gift_registers = gift_registers;
+        gift_flags = gift_flags;
+        part_reads = part_reads;
         reads = reads;
         first_flag = 32 * registers;
         first_head = 32 * registers + flags;
         first_choice = behind;
-        first_byte = behind + 2 * choices;
-        inputs = behind + 2 * choices + 8 * reads;
+        first_gift = behind + 2 * choices;
+        first_byte = last;
+        inputs = last + 8 * reads;
       })
-  laid first registers flags choices reads behind n m drawn entry head a b d e f g h i j k = record {
-    order = record { flag = refl; head = refl; choice = e; byte = refl; all = refl };
+  laid first registers flags choices reads behind last n drawn gift_registers gift_flags part_reads a b d e f g l h i j = record {
+    order = record { flag = refl; head = refl; choice = e; gift = refl; byte = l; all = refl };
     heads = refl;
     registers = ap (λ z. from_to z (length (layout_of v.form).registers)) (sym a) ∙ ap (from_to first) (sym b);
     flags = sym d;
     drawn = f;
-    reads = g;
-    entry = subst (λ (z : ℕ). ArePartReads 0 z (map read_of c.reads.items) entry.items) h j;
-    head = subst (λ (z : ℕ). ArePartReads 1 z (map read_of c.reads.items) head.items) i k;
+    gifts = g;
+    reads = h;
+    reads_at = subst (λ (z : ℕ). AreReads z (map read_of c.reads.items) (lists_of part_reads.items)) i j;
   }
 
   long : length (frame_cells_of c).addresses ≡ length c.addresses.items
@@ -154,10 +148,9 @@ module _ (c : Celled) where
     drawn = drawn_right v p.drawn.items p.choices is.drawn;
     drawn_each = drawn_each v p.drawn.items p.choices is.drawn;
     choices = drawn_count v p.drawn.items p.choices is.drawn;
-    no_gift = λ i x g. no_step v v.points.items i x g.does;
+    gifts = is.gifts;
     reads = is.reads ∙ sym (length-map c.reads.items read_of);
-    entry = subst (λ (n : ℕ). ArePartReads 0 n (map read_of c.reads.items) p.entry_reads.items) (sym long) is.entry;
-    head = subst (λ (n : ℕ). ArePartReads 1 n (map read_of c.reads.items) p.head_reads.items) (sym long) is.head;
+    reads_at = subst (λ (n : ℕ). AreReads n (map read_of c.reads.items) (lists_of p.part_reads.items)) (sym long) is.reads_at;
   }
 
   -- and for its program, where it is one
@@ -171,8 +164,15 @@ module _ (c : Celled) where
         registers = is.registers;
         flags = is.flags;
         drawn = is.drawn;
+        no_register = no_register v flat.deeds p.first_gift (length (frame_of_cells c).points) (lists_of p.gift_registers.items)
+            (lists_of p.gift_flags.items) p.first_byte is.gifts;
+        no_flag = no_flag v flat.deeds p.first_gift (length (frame_of_cells c).points) (lists_of p.gift_registers.items) (lists_of p.gift_flags.items)
+            p.first_byte is.gifts;
+        given = nothing_behind v flat.deeds p.first_gift (length (frame_of_cells c).points) (lists_of p.gift_registers.items)
+            (lists_of p.gift_flags.items) p.first_byte is.gifts;
         reads = is.reads ∙ sym (length-map c.reads.items read_of) ∙ reads_count n rs flat.reads ∙ sym long;
-        entry = λ j l. entry_of n rs flat.reads p.entry_reads.items is.entry j (omega (arith, long, l));
-        entry_only = λ j k e. (let q = entry_only n rs flat.reads p.entry_reads.items is.entry j k e in (q.0, (let l = q.1 in let m = long in omega arith)));
-        head_none = none_of n rs flat.reads p.head_reads.items is.head;
+        entry = λ j l. entry_of n rs flat.reads (reads_of p 0) (is.reads_at 0) j (omega (arith, long, l));
+        entry_only = λ part j k e.
+            (let q = entry_only n rs flat.reads (reads_of p part) part (is.reads_at part) j k e in
+            (q.0, q.1, (let l = q.2 in let m = long in omega arith)));
       }

@@ -1,5 +1,5 @@
 -- Readings whose inputs have places, and what is said of their base reads.
-use Rattle.std.proofs.Common.{◌≡◌, ◌↔◌, refl, ap, sym, ◌∙◌, subst, arith, ℕ, ◌+◌, ◌-◌, ◌*◌, ◌<◌, Bool, true, ◌&&◌, List, [], Option, Some, None, map, length}
+use Rattle.std.proofs.Common.{◌≡◌, ◌↔◌, refl, ap, sym, ◌∙◌, subst, arith, ℕ, zero, suc, ◌+◌, ◌-◌, ◌*◌, ◌^◌, ◌<◌, Bool, true, ◌&&◌, List, [], Option, Some, None, map, length}
 use Rattle.std.specs.Prelude.{◌==◌, Contains, slice_index_or}
 use Rattle.std.specs.List.{list_all}
 use Rattle.std.specs.Global.{Vec}
@@ -21,7 +21,7 @@ use Rattle.mem_cells.specs.FrameViews.{frame_agreement_of, frame_asked_of}
 use Rattle.bit_blast.specs.declared.input_places.InputPlaces.{InputPlaces}
 use Rattle.bit_blast.specs.BitWords.{AreBlasted, values_of}
 use Rattle.bit_blast.specs.CellClauses.{AreClauses, AreReadsOf, IsTrueAt}
-use Rattle.bit_blast.specs.Places.{AreInOrder, HasRead, IsReadingAt, first_of, reads_of, seen}
+use Rattle.bit_blast.specs.Places.{AreInOrder, HasPart, HasRead, IsReadingAt, first_of, gift_flag, gift_register, reads_of, seen}
 use Rattle.bit_blast.specs.Said.{agrees_at, asked_at, byte_at}
 use Rattle.bit_blast.proofs.Allowed.{AreMeant, agree_all, all_agree, all_asked, asked_all}
 use Rattle.bit_blast.proofs.Lists.{word_is}
@@ -39,19 +39,46 @@ module _ (p : InputPlaces) where
   byte_number v None = 0
   byte_number v (Some k) = input_number v (p.first_byte + 8 * k) 8
 
+  abbrev given_number : (ℕ → Bool) → (width : ℕ) → Option ℕ → ℕ
+  given_number v w None = 0
+  given_number v w (Some k) = input_number v k w
+
+  abbrev register_number : (ℕ → Bool) → (part n : ℕ) → ℕ
+  register_number v zero n = input_number v (first_of p 0 + 32 * (n - p.first_register)) 32
+  register_number v (suc zero) n = input_number v (first_of p 1 + 32 * (n - p.first_register)) 32
+  register_number v (suc (suc i)) n = given_number v 32 (gift_register p i n)
+
+  abbrev flag_number : (ℕ → Bool) → (part f : ℕ) → ℕ
+  flag_number v zero f = input_number v (first_of p 0 + p.first_flag + f) 1
+  flag_number v (suc zero) f = input_number v (first_of p 1 + p.first_flag + f) 1
+  flag_number v (suc (suc i)) f = given_number v 1 (gift_flag p i f)
+
   abbrev pub reading_of : (ℕ → Bool) → TermReading
   reading_of v = record {
-    regs = λ part n. input_number v (first_of p part + 32 * (n - p.first_register)) 32;
-    flags = λ part f. input_number v (first_of p part + p.first_flag + f) 1;
+    regs = register_number v;
+    flags = flag_number v;
     mem = λ part a. 0;
     choice = λ i. choice_number v (slice_index_or p.drawn.items i None);
     base = λ part j. byte_number v (slice_index_or (reads_of p part) j None);
   }
 
+  registers_at : (v : ℕ → Bool) (part n : ℕ) → HasPart p part →
+      register_number v part n ≡ input_number v (first_of p part + 32 * (n - p.first_register)) 32
+  registers_at v zero n h = refl
+  registers_at v (suc zero) n h = refl
+  registers_at v (suc (suc i)) n h = absurd h
+
+  flags_at : (v : ℕ → Bool) (part f : ℕ) → HasPart p part → flag_number v part f ≡ input_number v (first_of p part + p.first_flag + f) 1
+  flags_at v zero f h = refl
+  flags_at v (suc zero) f h = refl
+  flags_at v (suc (suc i)) f h = absurd h
+
   pub reading_is_at : (v : ℕ → Bool) → IsReadingAt p v (reading_of v)
   reading_is_at v = record {
-    registers = λ part n h l m. refl;
-    flags = λ part f h l. refl;
+    registers = λ part n h l m. registers_at v part n h;
+    flags = λ part f h l. flags_at v part f h;
+    gift_registers = λ i n k h. ap (given_number v 32) h.0;
+    gift_flags = λ i f k h. ap (given_number v 1) h.0;
     choices = λ i k d. ap (choice_number v) d.1;
     bytes = λ part j k h. ap (byte_number v) h.0;
   }
@@ -64,10 +91,27 @@ module _ (p : InputPlaces) where
   byte_few v None = omega arith
   byte_few v (Some k) = number_few v (p.first_byte + 8 * k) 8
 
+  number_above : {a b : ℕ} → a < b → 0 < b
+  number_above l = omega arith
+
+  given_few : (v : ℕ → Bool) (w : ℕ) (o : Option ℕ) → given_number v w o < 2 ^ w
+  given_few v w None = number_above (number_few v 0 w)
+  given_few v w (Some k) = number_few v k w
+
+  register_few : (v : ℕ → Bool) (part n : ℕ) → register_number v part n < 2 ^ 32
+  register_few v zero n = number_few v (first_of p 0 + 32 * (n - p.first_register)) 32
+  register_few v (suc zero) n = number_few v (first_of p 1 + 32 * (n - p.first_register)) 32
+  register_few v (suc (suc i)) n = given_few v 32 (gift_register p i n)
+
+  flag_few : (v : ℕ → Bool) (part f : ℕ) → flag_number v part f < 2
+  flag_few v zero f = number_few v (first_of p 0 + p.first_flag + f) 1
+  flag_few v (suc zero) f = number_few v (first_of p 1 + p.first_flag + f) 1
+  flag_few v (suc (suc i)) f = given_few v 1 (gift_flag p i f)
+
   pub reading_in_range : (v : ℕ → Bool) → InRange (reading_of v)
   reading_in_range v = record {
-    regs = λ part n. number_few v (first_of p part + 32 * (n - p.first_register)) 32;
-    flags = λ part f. number_few v (first_of p part + p.first_flag + f) 1;
+    regs = register_few v;
+    flags = flag_few v;
     mem = λ part a. omega arith;
     choice = λ i. choice_few v (slice_index_or p.drawn.items i None);
     base = λ part j. byte_few v (slice_index_or (reads_of p part) j None);
@@ -81,14 +125,19 @@ module _ (p : InputPlaces) where
           (let s = state_within p part order h in
           at.registers part n h l m
           ∙ numbers_same p.inputs v w a (first_of p part + 32 * (n - p.first_register)) 32
-          (omega (arith, order.flag, order.head, order.byte, order.all)));
+          (omega (arith, order.flag, order.head, order.gift, order.byte, order.all)));
       flags = λ part f h l.
           (let s = state_within p part order h in
           at.flags part f h l
-          ∙ numbers_same p.inputs v w a (first_of p part + p.first_flag + f) 1 (omega (arith, order.flag, order.head, order.byte, order.all)));
+          ∙ numbers_same p.inputs v w a (first_of p part + p.first_flag + f) 1
+          (omega (arith, order.flag, order.head, order.gift, order.byte, order.all)));
+      gift_registers = λ i n k h.
+          (let l = h.1 in at.gift_registers i n k h ∙ numbers_same p.inputs v w a k 32 (omega (arith, order.all)));
+      gift_flags = λ i f k h.
+          (let l = h.1 in at.gift_flags i f k h ∙ numbers_same p.inputs v w a k 1 (omega (arith, order.all)));
       choices = λ i k d.
           (let l = d.2 in
-          at.choices i k d ∙ numbers_same p.inputs v w a (p.first_choice + 2 * k) 2 (omega (arith, order.byte, order.all)));
+          at.choices i k d ∙ numbers_same p.inputs v w a (p.first_choice + 2 * k) 2 (omega (arith, order.gift, order.byte, order.all)));
       bytes = λ part j k h.
           (let l = h.1 in
           at.bytes part j k h ∙ numbers_same p.inputs v w a (p.first_byte + 8 * k) 8 (omega (arith, order.all)));

@@ -1,49 +1,12 @@
--- What a filter and the removal of equal neighbours keep, element by element.
-use Rattle.std.proofs.Common.{◌≡◌, ℕ, zero, suc, ◌<◌, Bool, true, false, List, [], ◌∷◌, length, map, get_or, refl, ap, sym, ◌∙◌, subst, arith}
-use Rattle.std.specs.Prelude.{◌↔◌, ◌&&◌, Contains, filter, eqb, if◌then◌else◌}
+-- What the removal of equal neighbours keeps, pair by pair.
+use Rattle.std.proofs.Common.{◌≡◌, ℕ, zero, suc, Bool, true, false, List, [], ◌∷◌, refl, ap, sym, ◌∙◌, subst, arith}
+use Rattle.std.specs.Prelude.{◌↔◌, ◌&&◌, Contains, eqb, if◌then◌else◌}
 use Rattle.std.specs.List.{dedup, dedup_from}
 use Rattle.std.specs.List.Sorted.{IsPermutation}
 use Rattle.std.proofs.lemmas.Bool.{and_parts}
 use Rattle.std.proofs.lemmas.Bool.Decides.{nat_tests}
 use Rattle.std.proofs.lemmas.List.Kept.{Contains-from_dedup}
 use Rattle.std.proofs.lemmas.List.Sorted.{Contains-permutation, IsPermutation-sym}
-
--- an element of a mapped filter stands in the list
-pub kept_from : {X Y : Type 0} (f : X → Y) (p : X → Bool) (d : X) (xs : List X) (y : Y) → Contains (map f (filter p xs)) y →
-    (j : ℕ) × (j < length xs) × (p (get_or xs j d) ≡ true) × (f (get_or xs j d) ≡ y)
-kept_from f p d [] y (k, l, e) = absurd (omega (arith, l))
-kept_from {X} {Y} f p d (x ∷ xs) y h = by (λ g. let q = kept_from f p d xs y g in (suc q.0, omega (arith, q.1), q.2, q.3)) (p x) refl h
-  where
-    by : (Contains (map f (filter p xs)) y → (j : ℕ) × (j < length (x ∷ xs)) × (p (get_or (x ∷ xs) j d) ≡ true) × (f (get_or (x ∷ xs) j d) ≡ y)) →
-        (b : Bool) → p x ≡ b → Contains (map f (if b then x ∷ filter p xs else filter p xs)) y →
-        (j : ℕ) × (j < length (x ∷ xs)) × (p (get_or (x ∷ xs) j d) ≡ true) × (f (get_or (x ∷ xs) j d) ≡ y)
-    by later true e (zero, l, g) = (0, omega arith, e, g)
-    by later true e (suc k, l, g) = later (k, omega (arith, l), g)
-    by later false e h = later h
-
--- and one that passes stays
-pub kept_to : {X Y : Type 0} (f : X → Y) (p : X → Bool) (d : X) (xs : List X) (j : ℕ) → j < length xs → p (get_or xs j d) ≡ true →
-    Contains (map f (filter p xs)) (f (get_or xs j d))
-kept_to f p d [] j l t = absurd (omega (arith, l))
-kept_to f p d (x ∷ xs) zero l t = subst (λ (b : Bool). Contains (map f (if b then x ∷ filter p xs else filter p xs)) (f x)) (sym t) (0, omega arith, refl)
-kept_to {X} {Y} f p d (x ∷ xs) (suc j) l t = by (kept_to f p d xs j (omega (arith, l)) t) (p x)
-  where
-    by : Contains (map f (filter p xs)) (f (get_or xs j d)) → (b : Bool) → Contains (map f (if b then x ∷ filter p xs else filter p xs)) (f (get_or xs j d))
-    by (k, m, e) true = (suc k, omega (arith, m), e)
-    by h false = h
-
-itself : {X : Type 0} (xs : List X) → map (λ x. x) xs ≡ xs
-itself [] = refl
-itself (x ∷ xs) = ap (λ z. x ∷ z) (itself xs)
-
-pub stands_in : {X : Type 0} (p : X → Bool) (d : X) (xs : List X) (y : X) → Contains (filter p xs) y → (j : ℕ) × (j < length xs) × (p (get_or xs j d) ≡ true) ×
-    (get_or xs j d ≡ y)
-stands_in {X} p d xs y h = kept_from (λ x. x) p d xs y (subst (λ (z : List X). Contains z y) (sym (itself (filter p xs))) h)
-
-pub stays_in : {X : Type 0} (p : X → Bool) (d : X) (xs : List X) (j : ℕ) → j < length xs → p (get_or xs j d) ≡ true → Contains (filter p xs) (get_or xs j d)
-stays_in {X} p d xs j l t = subst (λ (z : List X). Contains z (get_or xs j d)) (itself (filter p xs)) (kept_to (λ x. x) p d xs j l t)
-
--- ---- pairs
 
 -- two pairs of numbers are equal
 abbrev pub equal_pairs : ℕ × ℕ → ℕ × ℕ → Bool

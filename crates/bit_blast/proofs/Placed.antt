@@ -12,7 +12,7 @@ use Rattle.term_spec.specs.ClauseForm.{bits_from, drawn_below, first_flag, first
 use Rattle.walk_laws.proofs.InputPlaces.{range_length}
 use Rattle.word_gates.specs.Numbers.{input_number}
 use Rattle.bit_blast.specs.declared.input_places.InputPlaces.{InputPlaces}
-use Rattle.bit_blast.specs.Places.{HasPart, HasRead, IsNamed, IsRead, IsReadingAt, first_of}
+use Rattle.bit_blast.specs.Places.{HasFlag, HasPart, HasRead, HasRegister, IsNamed, IsRead, IsReadingAt, first_of}
 use Rattle.bit_blast.specs.Laid.{ArePlaces}
 use Rattle.bit_blast.proofs.PartPlaces.{behind_entry}
 use Rattle.bit_blast.proofs.InputNumbers.{bits_are, in_range, any_in_range, place_in_range, drawn_less}
@@ -28,7 +28,7 @@ module _ (u : UnrolledProgram) (c : Cells) (p : InputPlaces) (is : ArePlaces u c
   choice_first = omega (arith, is.order.head, behind_entry p is.order is.heads, flag_first, is.flags)
 
   pub byte_first : p.first_byte ≡ first_byte u
-  byte_first = omega (arith, is.order.byte, choice_first, is.drawn.all)
+  byte_first = omega (arith, is.order.gift, is.given, choice_first, is.drawn.all)
 
   pub inputs_are : p.inputs ≡ inputs u c
   inputs_are = omega (arith, is.order.all, byte_first, is.reads)
@@ -40,8 +40,8 @@ module _ (u : UnrolledProgram) (c : Cells) (p : InputPlaces) (is : ArePlaces u c
   -- a node of the cells names an input that has a place
   pub named : (n : TermNode) → IsNamedBelow u (length c.addresses) n → IsNamed p n
   named (RegisterNode part n) h =
-      let q = in_range p.first_register p.registers n (subst (λ (z : List ℕ). list_any (nat_eq n) z ≡ true) is.registers h.1) in (subst (HasPart p) (sym h.0) tt, q.0, q.1)
-  named (FlagNode part f) h = let k = h.1 in let l : f < u.flags = grind (arith, nat_tests) in (subst (HasPart p) (sym h.0) tt, omega (arith, is.flags))
+      let q = in_range p.first_register p.registers n (subst (λ (z : List ℕ). list_any (nat_eq n) z ≡ true) is.registers h.1) in subst (λ (z : ℕ). HasRegister p z n) (sym h.0) (q.0, q.1)
+  named (FlagNode part f) h = let k = h.1 in let l : f < u.flags = grind (arith, nat_tests) in (let m : f < p.flags = omega (arith, is.flags) in subst (λ (z : ℕ). HasFlag p z f) (sym h.0) m)
   named (ChoiceNode i) h =
       let e = is.drawn.each i h.0 ∙ ap (λ z. if z then Some (drawn_below u i) else None) h.1 in
       (drawn_below u i, (omega (arith, h.0, is.drawn.places), e, omega (arith, is.drawn.all, drawn_less u i (length u.points) h.1 h.0)))
@@ -96,9 +96,8 @@ module _ (u : UnrolledProgram) (c : Cells) (p : InputPlaces) (is : ArePlaces u c
     origin (suc (suc i)) h = absurd h
 
     byte_of : (part j k : ℕ) → IsRead p part j k → (reading u c v).base part j ≡ input_number v (p.first_byte + 8 * k) 8
-    byte_of zero j k h = let q = is.entry_only j k h.0 in byte_at j q.1 ∙ ap (λ z. input_number v (p.first_byte + 8 * z) 8) (sym q.0)
-    byte_of (suc zero) j k h = absurd (is.head_none j k h.0)
-    byte_of (suc (suc i)) j k h = absurd (let e = h.0 in cc)
+    byte_of part j k h =
+        let q = is.entry_only part j k h.0 in byte_at j q.2 ∙ ap (λ z. input_number v (p.first_byte + 8 * z) 8) (sym q.1)
 
   -- the reading of a valuation
   pub reading_at : (v : ℕ → Bool) → IsReadingAt p v (reading u c v)
@@ -109,6 +108,8 @@ module _ (u : UnrolledProgram) (c : Cells) (p : InputPlaces) (is : ArePlaces u c
         in e);
     flags = λ part f h l.
         flag_at v f l ∙ ap (λ z. input_number v z 1) (let o = origin v part h in let e : p.first_flag + f ≡ first_of p part + p.first_flag + f = omega arith in e);
+    gift_registers = λ i n k h. absurd (is.no_register i n k h.0);
+    gift_flags = λ i f k h. absurd (is.no_flag i f k h.0);
     choices = λ i k d. chosen v i k ((point_at u i).draws) (slice_index_or p.drawn.items i None) (is.drawn.each i (omega (arith, d.0, is.drawn.places))) d.1;
     bytes = byte_of v;
   }

@@ -34,7 +34,7 @@ numbers_same m v w a f (suc n) l =
 
 module _ (v : ℕ → Bool) (x : TermReading) where
   -- a variable has a bit
-  abbrev HasBit : ℕ → PartInput → Type 0
+  abbrev pub HasBit : ℕ → PartInput → Type 0
   HasBit f y = v (suc f) ≡ (bit_of x y == 1)
 
   -- and so variables on from one
@@ -96,6 +96,20 @@ module _ (v : ℕ → Bool) (x : TermReading) where
     row_from make (a + 1) n (suc f) (λ k l.
         subst (λ (z : ℕ). HasBit (suc f + k) (make z)) (let e : a + suc k ≡ a + 1 + k = omega arith in e)
         (at (f + suc k) (suc f + k) (make (a + suc k)) (omega arith) (h (suc k) (omega arith)))),
+  )
+
+  -- a bit for each of a list
+  pub list_to : (make : ℕ → PartInput) (ys : List ℕ) (f : ℕ) → HasFrom f (map make ys) → (k y : ℕ) → slice_get ys k ≡ Some y → HasBit (f + k) (make y)
+  list_to make [] f h k y e = absurd (cc)
+  list_to make (z ∷ ys) f h zero y e =
+      let same : z ≡ y = cc in subst (λ (w : ℕ). HasBit (f + 0) (make w)) same (at f (f + 0) (make z) (omega arith) h.0)
+  list_to make (z ∷ ys) f h (suc k) y e = at (suc f + k) (f + suc k) (make y) (omega arith) (list_to make ys (suc f) h.1 k y e)
+
+  pub list_from : (make : ℕ → PartInput) (ys : List ℕ) (f : ℕ) → ((k y : ℕ) → slice_get ys k ≡ Some y → HasBit (f + k) (make y)) → HasFrom f (map make ys)
+  list_from make [] f h = tt
+  list_from make (z ∷ ys) f h = (
+    at (f + 0) f (make z) (omega arith) (h 0 z refl),
+    list_from make ys (suc f) (λ k y e. at (f + suc k) (suc f + k) (make y) (omega arith) (h (suc k) y e)),
   )
 
   -- the bits of a word

@@ -2,7 +2,6 @@ pub mod BitWords
 pub mod Broken
 pub mod CellClauses
 pub mod CellWords
-pub mod Followed
 pub mod Laid
 pub mod Places
 pub mod ReadBytes

@@ -4,7 +4,7 @@ ghost use Rattle.term_spec.specs.Terms.{TermReading, node_value, own_gates, widt
 ghost use Rattle.term_dag.specs.Nodes.{IsWordInput, node_of};
 ghost use Rattle.gates.specs.Circuits.{Netlist, next, Within};
 ghost use Rattle.word_gates.specs.Numbers.{input_number, number, IsWord};
-ghost use Rattle.bit_blast.specs.Places.{AreInOrder, HasPart, IsNamed, IsReadingAt, first_of, seen};
+ghost use Rattle.bit_blast.specs.Places.{AreInOrder, HasFlag, HasPart, HasRegister, IsNamed, IsReadingAt, first_of, seen};
 
 use crate::input_places::InputPlaces;
 use gates::Bit;
@@ -35,6 +35,40 @@ fn first_of(places: &InputPlaces, part: u32) -> u32
     if part == 0 { 0 } else { places.first_head }
 }
 
+/// The first of the inputs of a register of a part.
+fn register_input(places: &InputPlaces, part: u32, number: u8) -> u32
+    requires named { HasRegister places.now part number }
+    requires order { AreInOrder places.now }
+    ensures within { result + 32 ≤ places.now.inputs }
+    ensures value { (v : ℕ → Bool) (x : TermReading) → IsReadingAt places.now v x → input_number v result 32 ≡ x.regs part number }
+{
+    let _all = places.inputs;
+    if part < 2 {
+        return first_of(places, part) + 32 * (number - places.first_register) as u32;
+    }
+    match places.gift_register(part - 2, number) {
+        Some(first) => first,
+        None => unreachable!(),
+    }
+}
+
+/// The input of a flag of a part.
+fn flag_input(places: &InputPlaces, part: u32, number: u8) -> u32
+    requires named { HasFlag places.now part number }
+    requires order { AreInOrder places.now }
+    ensures within { result + 1 ≤ places.now.inputs }
+    ensures value { (v : ℕ → Bool) (x : TermReading) → IsReadingAt places.now v x → input_number v result 1 ≡ x.flags part number }
+{
+    let _all = places.inputs;
+    if part < 2 {
+        return first_of(places, part) + places.first_flag + number as u32;
+    }
+    match places.gift_flag(part - 2, number) {
+        Some(input) => input,
+        None => unreachable!(),
+    }
+}
+
 /// The first of the inputs that a node is.
 pub fn first_input(places: &InputPlaces, node: Node) -> u32
     requires input { IsWordInput (node_of node) }
@@ -46,10 +80,8 @@ pub fn first_input(places: &InputPlaces, node: Node) -> u32
 {
     let _all = places.inputs;
     match node {
-        Node::Register { part, number } => {
-            first_of(places, part) + 32 * (number - places.first_register) as u32
-        }
-        Node::Flag { part, number } => first_of(places, part) + places.first_flag + number as u32,
+        Node::Register { part, number } => register_input(places, part, number),
+        Node::Flag { part, number } => flag_input(places, part, number),
         Node::Choice(place) => match places.drawn[place as usize] {
             Some(choice) => places.first_choice + 2 * choice,
             None => unreachable!(),

@@ -1,8 +1,6 @@
-//! The clauses of a question without memory: circuits for its terms, and ties for what is said of its base reads; and what values of its
-//! inputs give: the known bytes that they go against, and a start.
+//! The clauses of a question without memory: circuits for its terms, and ties for what is said of its base reads; and where its inputs stand among the variables.
 #![tactic(auto)]
 
-mod base_bytes;
 mod cells;
 mod clauses;
 mod differing;
@@ -17,7 +15,6 @@ mod operators;
 mod products;
 mod reads;
 mod reciprocals;
-mod start;
 mod starts;
 mod steps;
 mod ties;
@@ -26,15 +23,14 @@ mod words;
 
 pub use cells::{cell_words, tie_reads};
 pub use clauses::{blast, blast_frame};
-pub use differing::{addresses_in_order, broken};
-pub use entry::{bytes_in_order, memory_of, not_zero};
+pub use differing::addresses_in_order;
+pub use entry::{bytes_in_order, not_zero};
 pub use input_places::InputPlaces;
 pub use inputs::first_input;
 pub use laying::{free_inputs, places_of};
 pub use lookup::known_byte;
 pub use memories::{of_bytes, put, start_memory};
 pub use nodes::operand;
-pub use start::start_of;
 pub use starts::flags_by_number;
 pub use steps::{choices_by_place, choices_by_step, list_choice};
 pub use ties::push_tie;

@@ -196,5 +196,6 @@ pub fn word_of(
         Node::Load { .. } => unreachable!(),
         Node::Store { .. } => unreachable!(),
         Node::Join { .. } => unreachable!(),
+        Node::Take { .. } => unreachable!(),
     }
 }

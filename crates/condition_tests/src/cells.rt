@@ -2,20 +2,23 @@
 ghost use Rattle.std.specs.Prelude.{◌≡◌, ◌<◌, true, false};
 ghost use Rattle.bilv_spec.specs.Files.{is_rv};
 ghost use Rattle.machine_spec.specs.RvMachine.{rv32};
+ghost use Rattle.frame_terms.specs.FrameCells as frames;
 ghost use Rattle.frame_terms.specs.HeadlessTerms.{as_cells};
-ghost use Rattle.mem_cells.specs.FrameViews.{frame_cells_of};
+ghost use Rattle.mem_cells.specs.FrameViews.{frame_cells_of, frame_of_cells};
 ghost use Rattle.mem_cells.specs.Views.{cells_of, program_of_cells};
 ghost use Rattle.notes_value.specs.NoteViews.{notes_of};
 ghost use Rattle.notes_value.specs.Reads.{AreReadable};
+ghost use Rattle.question_form.specs.FrameQuestions.{heads_of_question};
 ghost use Rattle.term_spec.specs.Cells.{AreFormed};
 ghost use Rattle.verdict.specs.Rounds.{IsAskable};
 
 use crate::programs::Case;
 use crate::propagation::satisfy;
 use crate::starts::{is_true, reading_with, registers, word, word_of};
-use bit_blast::{blast, broken};
+use bit_blast::blast;
 use byte_mem::Endian;
 use cnf_form::Cnf;
+use frame_start::broken_bytes;
 use mem_cells::Celled;
 use std::alloc::{AllocError, Global};
 use term_dag::Reading;
@@ -106,15 +109,13 @@ pub fn broken_zeros(
     place: usize,
     at: u32,
 ) -> Result<[usize; 3], AllocError>
-    requires formed { AreFormed (program_of_cells celled.now) (cells_of celled.now) }
-    requires flat { frame_cells_of celled.now ≡ as_cells (cells_of celled.now) }
-    requires askable { IsAskable celled.now.question.now.passive.now }
+    requires formed { frames.AreFormed (frame_of_cells celled.now) (heads_of_question celled.now.question.now) (frame_cells_of celled.now) }
     requires place { place < 31 }
 {
     let mut registers = [0u32; 31];
     registers[place] = at;
     let values = inputs(alloc, &registers, &[])?;
-    let found = broken(alloc, celled, &values)?;
+    let found = broken_bytes(alloc, celled, &values)?;
     match (found.first(), found.last()) {
         (Some(first), Some(last)) => Ok([*first as usize, *last as usize, found.len()]),
         _ => Ok([0, 0, 0]),

@@ -3,13 +3,14 @@ ghost use Rattle.std.specs.Prelude.{◌≡◌, ◌<◌, ◌≤◌, true, false, 
 ghost use Rattle.bilv_spec.specs.Files.{is_rv, order_of, program_of};
 ghost use Rattle.machine_spec.specs.RvMachine.{rv32};
 ghost use Rattle.frame_terms.specs.HeadlessTerms.{as_cells};
+ghost use Rattle.frame_start.specs.Segments.{IsFrameAskable};
 ghost use Rattle.mem_cells.specs.FrameViews.{frame_cells_of};
 ghost use Rattle.mem_cells.specs.Views.{cells_of, program_of_cells};
 ghost use Rattle.notes_value.specs.NoteViews.{notes_of};
 ghost use Rattle.notes_value.specs.Reads.{AreOver, AreReadable};
 ghost use Rattle.verdict.specs.Measures.{IsMeasurable};
 ghost use Rattle.asked_bytes.specs.AskedBytes.{AreRising};
-ghost use Rattle.verdict.specs.Rounds.{IsAskable};
+ghost use Rattle.verdict.specs.Rounds.{IsAskable, IsDecidable};
 ghost use Rattle.question_form.specs.Questions.{program_of_question, question_of, term_of};
 ghost use Rattle.term_spec.specs.Cells.{AreFormed};
 ghost use Rattle.term_spec.specs.WalkQuestions.{TellsQuestion};
@@ -21,18 +22,18 @@ use crate::programs::{Case, DATA, ENTRY, Program, RISC_V, addresses, file};
 use elf32_reader::{ElfFault, Image, read_image};
 use flow_graph::descend;
 use machine_law::Machine;
-use mem_cells::{Celled, cells_some};
+use mem_cells::{Celled, cells_some, frame_cells};
 use notes_lang::{Dialect, parse_notes};
 use notes_value::Notes;
 use passify::passive;
 use program_points::PointsFault;
-use question_form::{Kind, Passive, Question, Unrolled};
+use question_form::{Asked, Kind, Passive, Question, Unrolled};
 use rv_lift::Rv32;
 use start_value::Layout;
 use std::alloc::{AllocError, Global};
 use std::test::Fail;
 use unroller::unroll;
-use weakest_pre::question;
+use weakest_pre::{frame_question, question};
 
 /// The place of `a3` among the registers.
 const A3: usize = 12;
@@ -77,7 +78,7 @@ pub fn unrolled<'a, M: Machine>(
 /// Its passive program.
 pub fn passive_of<'a>(alloc: Global, unrolled: &'a Unrolled<'a>) -> Result<Passive<'a>, AllocError>
     requires { IsMeasurable unrolled.now }
-    ensures { IfOk result IsAskable }
+    ensures { IfOk result IsDecidable }
 {
     let passive = passive(alloc, unrolled)?;
     Ok(passive)
@@ -118,11 +119,11 @@ pub fn broken_of(
     place: usize,
     at: u32,
 ) -> Result<[usize; 3], AllocError>
-    requires askable { IsAskable passive.now }
+    requires askable { IsFrameAskable passive.now }
     requires place { place < 31 }
 {
-    let question = question(alloc, passive, Kind::Fail)?;
-    let celled = cells_some(alloc, &question, &[])?;
+    let question = frame_question(alloc, passive, Asked::of_program(Kind::Fail))?;
+    let celled = frame_cells(alloc, &question, &[])?;
     broken_zeros(alloc, &celled, place, at)
 }
 
@@ -181,7 +182,7 @@ fn study_passive(
     case: &Case,
     study: Study,
 ) -> Result<[usize; 4], AllocError>
-    requires askable { IsAskable passive.now }
+    requires decidable { IsDecidable passive.now }
     requires machine { is_rv case.now.image.now ≡ true }
     requires readable { AreReadable (rv32 false).has_register (notes_of case.now.notes.now) }
 {

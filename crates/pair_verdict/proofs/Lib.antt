@@ -1,12 +1,15 @@
 pub mod ApartLoop
 pub mod AskedProgram
 pub mod BothPoints
+pub mod CellsOfFrame
 pub mod Differing
 pub mod ExitRuns
 pub mod ExitSteps
+pub mod FormedFrames
 pub mod LawfulSides
 pub mod LinesApart
 pub mod MachineOfSide
+pub mod Meant
 pub mod OwnExits
 pub mod PairAnswering
 pub mod PairPoints
@@ -17,8 +20,10 @@ pub mod Refuted
 pub mod RoundOf
 pub mod RoundsTold
 pub mod SettledBy
+pub mod ShownStart
 pub mod SideLayers
 pub mod SideVerdicts
 pub mod SidesDecided
 pub mod StartReading
+pub mod ValuedReading
 pub mod WordsOfStates

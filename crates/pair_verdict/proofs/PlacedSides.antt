@@ -32,7 +32,7 @@ use Rattle.start_value.specs.declared.layout.Layout.{Layout}
 use Rattle.start_value.specs.declared.layout.Layout.TheVariants.{Rv32, Arm}
 use Rattle.verdict.specs.Measures.{IsUnrolledOf}
 use Rattle.verdict.specs.Rounds.{HasBytes}
-use Rattle.verdict.proofs.Grounding.{askable, count_points}
+use Rattle.verdict.proofs.Grounding.{count_points, decidable}
 use Rattle.walk_spec.specs.Unrolled.{UnrolledProgram}
 use Rattle.walk_spec.specs.Unrolling.{IsWalkable}
 use Rattle.pair_verdict.specs.PairRounds.{IsReady}
@@ -120,7 +120,7 @@ module _ (s : Sided) (second : Bool) (links : List declared.Link) (k : ℕ) (v :
   pub is_ready : k ≤ 4096 → IsReady second links e q
   is_ready few = record {
     same = ap unrolled_of (of ∙ sym passive.of);
-    askable = askable v q h.measurable passive;
+    decidable = decidable v q h.measurable passive;
     headless = subst IsHeadless (sym of) h.measurable.headless;
     few = subst (λ (z : Unrolled). length z.points.items ≤ 2 ^ 28) (sym of) h.few;
     links_are = subst (λ (z : Unrolled). AreLinksOfSide second z.form links) (sym of) linked;

@@ -1,11 +1,8 @@
 -- What a round of a question about two functions comes to, over the values of its steps.
-use Rattle.std.proofs.Common.{◌≡◌, refl, sym, ap, subst, ◌∙◌, ℕ, zero, suc, ◌-◌, ◌<◌, ◌≤◌, Bool, true, false, List, [], ◌∷◌, take, drop, Result, Ok, IfOk, arith}
-use Rattle.std.specs.Prelude.{All, ◌==◌, length}
+use Rattle.std.proofs.Common.{◌≡◌, refl, sym, ap, subst, ◌∙◌, ℕ, zero, suc, ◌-◌, ◌≤◌, Bool, false, List, [], ◌∷◌, take, drop, Result, Ok, IfOk, arith}
+use Rattle.std.specs.Prelude.{All, length}
 use Rattle.std.specs.List.{flat_map}
-use Rattle.std.proofs.lemmas.Bool.Decides.{nat_tests}
 use Rattle.std.proofs.lemmas.List.{length-drop}
-use Rattle.std.proofs.lemmas.List.Elements.{at_from_Contains}
-use Rattle.word_spec.specs.State.{Written}
 use Rattle.clause_spec.specs.Clauses.{AreOnVariables, Satisfies, valuation}
 use Rattle.clause_spec.specs.Refutation.{IsRefutation}
 use Rattle.clause_spec.specs.Empowering.{IsSpent}
@@ -16,30 +13,18 @@ use Rattle.cnf_form.specs.declared.form.Log.{Log}
 use Rattle.sat_core.specs.Answers.{IsAnswer}
 use Rattle.sat_core.specs.declared.answer.Answer.{Answer}
 use Rattle.sat_core.specs.declared.answer.Answer.TheVariants as search
-use Rattle.start_value.specs.Starts.{written_of}
-use Rattle.start_value.specs.declared.start.Start.{Start}
 use Rattle.start_value.specs.declared.layout.Layout as forms
 use Rattle.links_lang.specs.Views.{AreLinksOf, links_of}
 use Rattle.links_lang.specs.declared.links.Link as declared
-use Rattle.mem_cells.specs.Views.{cells_of, program_of_cells}
-use Rattle.mem_cells.specs.declared.cells.Celled.{Celled}
 use Rattle.pair_form.specs.Views.{program_of_side_cells, side_cells_of}
 use Rattle.pair_form.specs.declared.sides.SideCells.{SideCells}
 use Rattle.pair_form.specs.declared.sides.SideQuestion.{SideQuestion}
-use Rattle.pair_spec.specs.ExitPlaces.{before_step}
 use Rattle.pair_spec.specs.Links.{ComparesAlike, Link}
 use Rattle.pair_spec.specs.PairEvidence.{behind}
 use Rattle.pair_spec.specs.PairTerms.{HaveWidths, TellsPair, exit_widths}
 use Rattle.pair_terms.specs.Sides.{TellsCellsOf}
-use Rattle.question_form.specs.Views.{points_of, unrolled_of}
-use Rattle.question_form.specs.declared.questions.Passive.{Passive}
-use Rattle.question_form.specs.declared.unrolled.Unrolled.{Unrolled}
-use Rattle.question_form.specs.declared.unrolled.Point.{Point}
-use Rattle.bit_blast.specs.Broken.{AreBroken}
-use Rattle.bit_blast.specs.ReadBytes.{AreOne}
-use Rattle.term_spec.specs.ClauseForm.{IsBroken, IsStartOf, inputs, reading}
-use Rattle.walk_spec.specs.Unrolled.{UnrolledProgram}
-use Rattle.pair_verdict.specs.PairRounds.{AreAskableSides, AreAsked, AreJudged, AreSound, AreValues, IsPairRound, IsShown, first_placed, second_placed}
+use Rattle.term_spec.specs.ClauseForm.{inputs}
+use Rattle.pair_verdict.specs.PairRounds.{AreAskableSides, AreAsked, AreJudged, AreValues, IsPairRound, first_placed, second_placed}
 use Rattle.pair_verdict.specs.declared.rounds.Asked.{Asked}
 use Rattle.pair_verdict.specs.declared.rounds.Sides.{Sides}
 use Rattle.pair_verdict.specs.declared.rounds.PairRound.{PairRound}
@@ -48,52 +33,6 @@ use Rattle.pair_verdict.specs.declared.verdicts.PairAnswered.TheVariants.{Sat, R
 use Rattle.pair_verdict.proofs.ReadingsAlike.{AreSame, behind_values}
 use Rattle.pair_verdict.proofs.RoundsTold.{cell_exits, first_further, first_values, refuted_so, second_further, second_values, shown_so, spent_so}
 use Rattle.pair_verdict.proofs.SideLayers.{alike}
-
--- ---- values and their starts
-
--- as many places as are listed
-count_points : (u : Unrolled) (qs : List Point) → length (points_of u qs) ≡ length qs
-count_points u [] = refl
-count_points u (q ∷ qs) = ap suc (count_points u qs)
-
--- values of which none is broken
-pub sound_by : (c : Celled) (values : List Bool) (q : Passive) (items : List ℕ) (n : ℕ) → AreValues c values q → AreBroken c values items →
-    length items ≡ n → (n == 0) ≡ true → AreSound c values q
-sound_by c values q items n are h count none = record {
-  values_are = are;
-  unbroken = λ a b.
-      let found = at_from_Contains items a ((h.broken a).1 b) in
-      let zero : n ≡ 0 = grind (arith, nat_tests) in
-      omega (arith, found.1, count, zero);
-}
-
-pub some_broken : (m n : ℕ) → m ≡ n → (n == 0) ≡ false → 0 < m
-some_broken m n e h = grind (arith, nat_tests)
-
--- values that break no byte of a program break none of the same program
-pub unbroken_as : (c : Celled) (values : List Bool) (q : Passive) → AreSound c values q → (a : ℕ) →
-    IsBroken (unrolled_of q.unrolled.now) (cells_of c) (reading (unrolled_of q.unrolled.now) (cells_of c) (valuation values)) a → ⊥
-unbroken_as c values q h =
-    subst (λ (u : UnrolledProgram). (a : ℕ) → IsBroken u (cells_of c) (reading u (cells_of c) (valuation values)) a → ⊥) h.values_are.same h.unbroken
-
--- reads of one address have one byte by the same program
-pub one_as : (c : Celled) (values : List Bool) (q : Passive) → AreSound c values q →
-    AreOne (cells_of c) (reading (unrolled_of q.unrolled.now) (cells_of c) (valuation values))
-one_as c values q h =
-    subst (λ (u : UnrolledProgram). AreOne (cells_of c) (reading u (cells_of c) (valuation values))) h.values_are.same h.values_are.one
-
--- a start by a passive program of the cells' program
-pub shown_by : (c : Celled) (values : List Bool) (q : Passive) → AreSound c values q → (x : Written) (s : Start) (n : ℕ) →
-    IsStartOf (unrolled_of q.unrolled.now) (cells_of c) (valuation values) x → n ≡ length q.unrolled.now.points.items →
-    written_of s ≡ before_step (n - 1) x → IsShown c values s
-shown_by c values q h x s n is count e =
-    let same : program_of_cells c ≡ unrolled_of q.unrolled.now = h.values_are.same in
-    let points : n ≡ length (program_of_cells c).points =
-    count ∙ sym (count_points q.unrolled.now q.unrolled.now.points.items) ∙ ap (λ (u : UnrolledProgram). length u.points) (sym same) in (
-      x,
-      subst (λ (u : UnrolledProgram). IsStartOf u (cells_of c) (valuation values) x) (sym same) is,
-      e ∙ ap (λ m. before_step (m - 1) x) points,
-    )
 
 -- the values after some
 take_all : (l : List Bool) (n : ℕ) → length l ≤ n → take n l ≡ l

@@ -4,6 +4,7 @@ use Rattle.std.specs.Prelude.{All, Contains, length, map, slice_index}
 use Rattle.std.proofs.lemmas.List.{length-append, length-map}
 use Rattle.std.specs.List.{flat_map}
 use Rattle.word_spec.specs.State.{Written}
+use Rattle.word_spec.specs.Memory.{Memory}
 use Rattle.clause_spec.specs.Clauses.{Cnf, Satisfies, valuation}
 use Rattle.clause_spec.specs.Refutation.{LogLine, IsRefutation}
 use Rattle.clause_spec.specs.Empowering.{IsSpent}
@@ -26,9 +27,7 @@ use Rattle.pair_terms.specs.Sides.{IsPlacedAs, TellsCellsOf}
 use Rattle.question_form.specs.Questions.{program_of_question}
 use Rattle.question_form.specs.Views.{unrolled_of}
 use Rattle.question_form.specs.declared.questions.Passive.{Passive}
-use Rattle.bit_blast.specs.Broken.{AreBroken}
-use Rattle.bit_blast.specs.ReadBytes.{AreOne}
-use Rattle.bit_blast.proofs.EntryBytes.{one_by_memory}
+use Rattle.mem_cells.proofs.Gathered.{term_free}
 use Rattle.walk_laws.proofs.CellValues.{word_fits}
 use Rattle.walk_laws.proofs.InputsWithin.{reading_in_range}
 use Rattle.walk_laws.proofs.StartReadings.{start_is_written}
@@ -40,12 +39,20 @@ use Rattle.term_spec.specs.WalkQuestions.{is_asked}
 use Rattle.verdict.specs.Grounds.{IsGround}
 use Rattle.verdict.specs.Rounds.{AreAdded, HasBytes}
 use Rattle.asked_bytes.proofs.Adding.{any_contained}
-use Rattle.pair_verdict.specs.PairRounds.{AreNew, AreValues, IsAskableSide, IsPairAnswered, IsShown}
+use Rattle.pair_verdict.specs.PairRounds.{AreBroken, AreNew, AreOne, AreValues, IsAskableSide, IsPairAnswered, IsShown}
 use Rattle.pair_verdict.specs.declared.verdicts.PairAnswered.TheVariants.{Sat}
 use Rattle.pair_verdict.proofs.OwnExits.{own_as}
 use Rattle.pair_verdict.proofs.PairAnswering.{pair_refutes, pair_shows, pair_spends}
 use Rattle.pair_verdict.proofs.ReadingsAlike.{AreSame, reading_same}
 use Rattle.pair_verdict.proofs.SideLayers.{side_layers}
+
+-- reads that some memory gives have one byte at one address
+one_by_memory : (u : UnrolledProgram) (c : Cells) → AreFormed u c → (x : TermReading) (m : Memory) → Gives c (with_mem x m) → AreOne c x
+one_by_memory u c formed x m gives i j l k e =
+    gives i l
+    ∙ ap m (term_free x (λ p. m) c.nodes (slice_index c.addresses i) formed.words ∙ e
+    ∙ sym (term_free x (λ p. m) c.nodes (slice_index c.addresses j) formed.words))
+    ∙ sym (gives j k)
 
 -- the cells of a side
 module _ (second : Bool) (links : List Link) (question : PairQuestion) (s : SideQuestion) (q : Passive) (side : IsAskableSide second links question s q)
@@ -90,7 +97,7 @@ module _ (second : Bool) (links : List Link) (question : PairQuestion) (s : Side
         one = subst (AreOne (side_cells_of c).cells) (sym (reading_same (program_of_side_cells c) (side_cells_of c).cells (valuation values) v same))
             (one_by_memory (program_of_side_cells c) (side_cells_of c).cells cells_formed x found.0 found.3);
         same = passive_is;
-        askable = side.askable;
+        decidable = side.decidable;
       }
 
   -- known bytes that values break are known bytes
@@ -111,7 +118,7 @@ module _ (second : Bool) (links : List Link) (question : PairQuestion) (s : Side
 -- the known bytes of a side are bytes
 pub side_bytes : (second : Bool) (links : List Link) (question : PairQuestion) (s : SideQuestion) (q : Passive) → IsAskableSide second links question s q →
     HasBytes (program_of_side_question s)
-side_bytes second links question s q side = subst HasBytes (sym side.same) side.askable.bytes
+side_bytes second links question s q side = subst HasBytes (sym side.same) side.decidable.askable.bytes
 
 -- what is added to the form is added to the program
 pub added_to : (u w : UnrolledProgram) → IsPlacedAs u w → (added : List ℕ) → AreAdded w added → AreAdded u added

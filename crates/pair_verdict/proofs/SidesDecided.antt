@@ -43,7 +43,7 @@ askable_side second links question e q s h of ready tells =
     let same : program_of_side_question s ≡ program_of_exit e = ap (λ (z : Passive). unrolled_of z.unrolled.now) of in
     record {
       same = same ∙ h.same;
-      askable = h.askable;
+      decidable = h.decidable;
       few = subst (λ (z : Passive). length z.unrolled.now.points.items ≤ 2 ^ 28) (sym of) h.few;
       ready = ready;
       tells = tells;

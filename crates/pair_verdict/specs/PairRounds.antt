@@ -1,5 +1,5 @@
 -- What a round of a question about two functions comes to, and what the question comes to.
-use Rattle.std.specs.Prelude.{ℕ, ◌≡◌, ◌≤◌, ◌<◌, ◌+◌, ◌-◌, ◌^◌, Bool, true, false, List, Contains, length}
+use Rattle.std.specs.Prelude.{ℕ, ◌≡◌, ◌≤◌, ◌<◌, ◌+◌, ◌-◌, ◌^◌, ◌↔◌, Bool, true, false, List, [], Contains, length, slice_index}
 use Rattle.bilv_spec.specs.Run.{Program}
 use Rattle.bilv_spec.specs.Answers.{start_in}
 use Rattle.bilv_spec.specs.Points.{is_known_at}
@@ -13,11 +13,12 @@ use Rattle.pair_spec.specs.ExitPlaces.{HasOwnExit, before_step}
 use Rattle.start_value.specs.Starts.{written_of}
 use Rattle.start_value.specs.declared.start.Start.{Start}
 use Rattle.word_spec.specs.State.{Written}
-use Rattle.term_spec.specs.Cells.{AreFormed}
+use Rattle.term_spec.specs.Cells.{AreFormed, Cells, read_address}
 use Rattle.term_spec.specs.ClauseForm.{IsBroken, IsStartOf, reading}
+use Rattle.term_spec.specs.Terms.{TermReading}
 use Rattle.walk_spec.specs.Unrolled.{UnrolledProgram}
-use Rattle.bit_blast.specs.Broken.{AreBroken}
-use Rattle.bit_blast.specs.ReadBytes.{AreOne}
+use Rattle.frame_start.specs.declared.meaning.Meaning.{Meaning}
+use Rattle.frame_start.specs.declared.meaning.Meaning.TheVariants as meaning
 use Rattle.mem_cells.specs.Views.{cells_of, program_of_cells}
 use Rattle.question_form.specs.Views.{unrolled_of}
 use Rattle.pair_form.specs.Views.{program_of_side_question}
@@ -35,7 +36,7 @@ use Rattle.pair_terms.specs.Words.{AreLinksOfSide}
 use Rattle.pair_terms.specs.declared.exits.ExitTerms.{ExitTerms}
 use Rattle.question_form.specs.declared.questions.Passive.{Passive}
 use Rattle.verdict.specs.Grounds.{IsGround}
-use Rattle.verdict.specs.Rounds.{AreAdded, IsAskable}
+use Rattle.verdict.specs.Rounds.{AreAdded, IsDecidable, entry_shown}
 use Rattle.pair_verdict.specs.declared.verdicts.PairAnswered.{PairAnswered}
 use Rattle.pair_verdict.specs.declared.verdicts.PairAnswered.TheVariants.{Sat, Refuted, Spent}
 use Rattle.pair_verdict.specs.declared.deciding.Exits.{Exits}
@@ -66,7 +67,7 @@ PairAnswers links first second question conflicts a =
 -- One side of a question about two functions, of which rounds can be made, and a passive program of its unrolled program.
 pub record IsAskableSide (second : Bool) (links : List Link) (question : PairQuestion) (s : SideQuestion) (q : Passive) : Type 0 where
   pub same : program_of_side_question s ≡ unrolled_of q.unrolled.now
-  pub askable : IsAskable q
+  pub decidable : IsDecidable q
   pub few : length s.question.passive.now.unrolled.now.points.items ≤ 2 ^ 28
   pub ready : CanBeCells s
   pub tells : TellsSideOf s second links question
@@ -86,7 +87,7 @@ second_placed s = program_of_side_question s.second.now
 -- the terms at the exit of a side, of which questions can be made, and a passive program of its unrolled program
 pub record IsReady (second : Bool) (links : List declared.Link) (e : ExitTerms) (q : Passive) : Type 0 where
   pub same : program_of_exit e ≡ unrolled_of q.unrolled.now
-  pub askable : IsAskable q
+  pub decidable : IsDecidable q
   pub headless : IsHeadless e.passive.unrolled.now
   pub few : length e.passive.unrolled.now.points.items ≤ 2 ^ 28
   pub links_are : AreLinksOfSide second e.passive.unrolled.now.form links
@@ -118,20 +119,35 @@ abbrev pub IsPairRound : List Link → Sides → PairQuestion → Asked → (con
 IsPairRound links s question asked conflicts (Answered a) = PairAnswers links (first_placed s) (second_placed s) question conflicts a
 IsPairRound links s question asked conflicts (Broken more) = AreFurtherOfBoth (first_placed s) (second_placed s) asked more
 
+-- reads of one address have one byte
+abbrev pub AreOne : Cells → TermReading → Type 0
+AreOne c x = (i j : ℕ) → i < length c.addresses → j < length c.addresses → read_address c x i ≡ read_address c x j → x.base 0 i ≡ x.base 0 j
+
+-- The addresses are those of the known bytes that a base read has otherwise under the values, rising and each once.
+pub record AreBroken (c : Celled) (values : List Bool) (at : List ℕ) : Type 0 where
+  pub rise : (i j : ℕ) → i < j → j < length at → slice_index at i < slice_index at j
+  pub broken : (a : ℕ) → Contains at a ↔ IsBroken (program_of_cells c) (cells_of c) (reading (program_of_cells c) (cells_of c) (valuation values)) a
+
 -- Values of cells in which base reads of one address have one byte, with a passive program of the cells' unrolled program.
 pub record AreValues (c : Celled) (values : List Bool) (q : Passive) : Type 0 where
   pub formed : AreFormed (program_of_cells c) (cells_of c)
   pub one : AreOne (cells_of c) (reading (program_of_cells c) (cells_of c) (valuation values))
   pub same : program_of_cells c ≡ unrolled_of q.unrolled.now
-  pub askable : IsAskable q
+  pub decidable : IsDecidable q
 
 abbrev pub AreValuesOf : SideCells → (values : List Bool) → Passive → Type 0
 AreValuesOf c values q = AreValues c.celled values q
 
--- they break no known byte
-pub record AreSound (c : Celled) (values : List Bool) (q : Passive) : Type 0 where
-  pub values_are : AreValues c values q
-  pub unbroken : (a : ℕ) → IsBroken (program_of_cells c) (cells_of c) (reading (program_of_cells c) (cells_of c) (valuation values)) a → ⊥
+-- what values mean: the start that they show, in one segment, or the known bytes that they have not
+abbrev pub IsMeant : Celled → (values : List Bool) → Meaning → Type 0
+IsMeant c values (meaning.Shown s) =
+    IsStartOf (program_of_cells c) (cells_of c) (valuation values) (entry_shown s) × (length s.choices.items ≡ 1)
+IsMeant c values (meaning.Broken list) = AreBroken c values list.items × (0 < length list.items)
+
+-- the known bytes that they have not
+abbrev pub broken_in : Meaning → List ℕ
+broken_in (meaning.Shown s) = []
+broken_in (meaning.Broken list) = list.items
 
 -- a start is that of values, but for choices at a step that only the exit's place makes
 abbrev pub IsShown : Celled → (values : List Bool) → Start → Type 0

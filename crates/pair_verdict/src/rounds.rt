@@ -6,11 +6,13 @@ ghost use Rattle.pair_form.specs.Views.{AreOfProgram, pair_question_of};
 ghost use Rattle.start_value.specs.Starts.{written_of};
 ghost use Rattle.term_spec.specs.ClauseForm.{inputs};
 ghost use Rattle.pair_spec.specs.ExitPlaces.{before_step};
-ghost use Rattle.pair_verdict.specs.PairRounds.{AreAskableSides, AreAsked, AreJudged, AreShown, AreSound, AreValuesOf, IsPairRound, IsShown, first_placed, second_placed};
+ghost use Rattle.verdict.specs.Rounds.{entry_shown};
+ghost use Rattle.pair_verdict.specs.PairRounds.{AreAskableSides, AreAsked, AreJudged, AreValues, AreValuesOf, IsMeant, IsPairRound, broken_in, first_placed, second_placed};
 
 use crate::verdicts::PairAnswered;
-use bit_blast::{broken, free_inputs, start_of};
+use bit_blast::free_inputs;
 use cnf_form::Proof;
+use frame_start::{Meaning, Segments, meaning_of};
 use links_lang::Link;
 use mem_cells::Celled;
 use pair_blast::blast_two;
@@ -21,6 +23,7 @@ use sat_core::{Answer, solve};
 use start_value::{Layout, Start};
 use std::alloc::{AllocError, Global};
 use term_dag::Dag;
+use verdict::start_shown;
 
 /// Both sides of a question about two functions, each with a passive program by which starts follow its walks.
 #[derive(Clone, Copy)]
@@ -83,17 +86,17 @@ fn without_exit(alloc: Global, start: Start, points: usize) -> Result<Start, All
     Ok(Start { choices, ..start })
 }
 
-/// The start of values, by a passive program of the cells' unrolled program. The passive program of the cells' question has nodes for the exit's words besides.
-/// The error is out of memory.
-fn start_by(
+/// What values mean, by a passive program of the cells' unrolled program. The passive program of the cells' question has nodes for the exit's words besides. The
+/// error is out of memory.
+fn meaning_by(
     alloc: Global,
     celled: Celled,
     passive: &Passive,
     values: &[bool],
-) -> Result<Start, AllocError>
+) -> Result<Meaning, AllocError>
     requires of { AreOfProgram celled }
-    requires sound { AreSound celled values.now passive.now }
-    ensures { IfOk result (IsShown celled.entry values.now) }
+    requires values { AreValues celled values.now passive.now }
+    ensures { IfOk result (IsMeant celled.entry values.now) }
 {
     let Celled {
         question,
@@ -119,32 +122,29 @@ fn start_by(
         asked,
         root,
     };
-    let start = start_of(alloc, &cells, values)?;
+    let meaning = meaning_of(alloc, &cells, values)?;
+    Ok(meaning)
+}
+
+/// The start of what values show of a side, without choices at the step that only the exit's place makes. The error is out of memory.
+fn start_by(alloc: Global, segments: Segments, passive: &Passive) -> Result<Start, AllocError>
+    requires some { 1 ≤ length passive.now.unrolled.now.points.items }
+    requires one { length segments.choices.items ≡ 1 }
+    ensures { IfOk result (λ s. written_of s ≡ before_step (length passive.now.unrolled.now.points.items - 1) (entry_shown segments)) }
+{
+    let start = start_shown(alloc, segments);
     let start = without_exit(alloc, start, passive.unrolled.points.len())?;
     Ok(start)
 }
 
-/// The starts of both sides' values, none of which is broken. The error is out of memory.
-fn starts_by(
-    alloc: Global,
-    first: Celled,
-    second: Celled,
-    sides: &Sides,
-    values: &[bool],
-    later: &[bool],
-) -> Result<PairAnswered, AllocError>
-    requires first_of { AreOfProgram first }
-    requires second_of { AreOfProgram second }
-    requires first { AreSound first values.now sides.now.first_passive.now }
-    requires second { AreSound second later.now sides.now.second_passive.now }
-    ensures { IfOk result (AreShown first.entry second.entry values.now later.now) }
+/// The known bytes that values have not; none where they show something.
+fn broken_of(alloc: Global, meaning: Meaning) -> Vec<u32>
+    ensures { result.items ≡ broken_in meaning }
 {
-    let one = start_by(alloc, first, sides.first_passive, values)?;
-    let two = start_by(alloc, second, sides.second_passive, later)?;
-    Ok(PairAnswered::Sat {
-        first: one,
-        second: two,
-    })
+    match meaning {
+        Meaning::Shown(_) => Vec::new(alloc),
+        Meaning::Broken(broken) => broken,
+    }
 }
 
 /// What satisfying values come to, where the second side's are those from a place on: the starts that they give, or the known bytes that they have not. The error
@@ -163,18 +163,25 @@ fn judge_values(
     requires second { AreValuesOf second later.now sides.now.second_passive.now }
     ensures { IfOk result (AreJudged first.entry second.entry values.now later.now) }
 {
-    let one = broken(alloc, &first.celled, values)?;
-    let two = broken(alloc, &second.celled, later)?;
-    if one.is_empty() {
-        if two.is_empty() {
-            let answered = starts_by(alloc, first.celled, second.celled, sides, values, later)?;
-            return Ok(PairRound::Answered(answered));
-        }
+    let one = meaning_by(alloc, first.celled, sides.first_passive, values)?;
+    let two = meaning_by(alloc, second.celled, sides.second_passive, later)?;
+    match one {
+        Meaning::Shown(shown) => match two {
+            Meaning::Shown(other) => {
+                let first = start_by(alloc, shown, sides.first_passive)?;
+                let second = start_by(alloc, other, sides.second_passive)?;
+                Ok(PairRound::Answered(PairAnswered::Sat { first, second }))
+            }
+            Meaning::Broken(broken) => Ok(PairRound::Broken(Asked {
+                first: Vec::new(alloc),
+                second: broken,
+            })),
+        },
+        Meaning::Broken(broken) => Ok(PairRound::Broken(Asked {
+            first: broken,
+            second: broken_of(alloc, two),
+        })),
     }
-    Ok(PairRound::Broken(Asked {
-        first: one,
-        second: two,
-    }))
 }
 
 /// One round of a question about two functions over the bytes of both files at some addresses and those of their literals, which are all known. The error is

@@ -1,4 +1,4 @@
-use Rattle.verdict.proofs.Grounding.{askable}
+use Rattle.verdict.proofs.Grounding.{decidable}
 use Rattle.condition_tests.proofs.studies.passive_of.Goals as goal
 
 pub passive-requires-clause-walkable : goal.passive-requires-clause-walkable
@@ -8,4 +8,4 @@ pub passive-requires-clause-formed : goal.passive-requires-clause-formed
 passive-requires-clause-formed c = c.requires.formed
 
 pub returns : goal.returns
-returns c = askable c.args.unrolled.now c.in_ok-passive.passive c.requires c.in_ok-passive.ensures
+returns c = decidable c.args.unrolled.now c.in_ok-passive.passive c.requires c.in_ok-passive.ensures

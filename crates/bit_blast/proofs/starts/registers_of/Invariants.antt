@@ -1,8 +1,0 @@
-use Rattle.std.proofs.Common.{◌≡◌, ◌*◌, map}
-use Rattle.clause_spec.specs.Clauses.{valuation}
-use Rattle.word_spec.specs.RowFiles.{from_to}
-use Rattle.term_spec.specs.ClauseForm.{bits_from}
-use Rattle.bit_blast.proofs.starts.registers_of.Given as goal
-
-abbrev pub invariant-loop-i : goal.invariant-loop-i
-invariant-loop-i l = l.registers.items ≡ map (λ q. bits_from (valuation l.values) (32 * q) 32) (from_to 0 l.i)
