@@ -73,7 +73,8 @@ impl<'a, R: Files + AllocGlobal> FileShelf<'a, R> {
         }
     }
 
-    /// Keeps a file as the last one. Where memory runs out for its name none is kept, so that the next read opens it again.
+    /// Keeps a file as the last one. Where memory runs out for its name none is kept, so that the next read opens it again: of a pipe, which cannot be read at a
+    /// place a second time, that read then fails.
     fn keep(&mut self, name: &str, placed: PlacedFile<R::File>)
         ensures kept { IsLast (last_file self.new) name.now placed ⊎ (last_file self.new ≡ None) }
         ensures same { file_faults self.new ≡ file_faults self.old }
