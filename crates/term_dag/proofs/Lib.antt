@@ -1,4 +1,5 @@
 pub mod ListLaws
+pub mod Refusals
 pub mod Ranges
 pub mod WordFolds
 pub mod Growth

@@ -1,10 +1,10 @@
 //! The list of nodes, each kept once.
 
-ghost use Rattle.std.specs.Prelude.{◌≡◌, ℕ, ◌<◌, ◌≤◌, ◌^◌, ◌⊎◌, List, [], length, IfNone, IfSome, IfOk, MatchResult};
+ghost use Rattle.std.specs.Prelude.{◌≡◌, ℕ, ◌<◌, ◌≤◌, ◌^◌, ◌⊎◌, List, [], length, take, IfNone, IfSome, IfOk, MatchResult};
 ghost use Rattle.term_spec.specs.Terms.{ConstantNode, TermNode, TermReading, node_at, term_value, term_word, width_of, HasWidth, IsTypedOver, AreTyped};
 ghost use Rattle.term_dag.specs.Nodes.{node_of, nodes_of};
 ghost use Rattle.term_dag.specs.Readings.{AreWords, reading_of, reading_of_parts};
-ghost use Rattle.term_dag.specs.Made.{AreDistinct, Grew, IsInterned, IsMade, Separates};
+ghost use Rattle.term_dag.specs.Made.{AreDistinct, IsInterned, IsMade, Separates};
 
 use crate::folds::{Folded, fold, look, width_of_node};
 use crate::values::{byte, one_part, words_of};
@@ -151,12 +151,27 @@ impl Dag {
         Ok(Term(place as u32))
     }
 
+    /// The place of a node as it is, like `keep`; but where it cannot be kept, the first `stood` terms alone are left.
+    fn keep_or_leave(&mut self, stood: usize, node: Node) -> Result<Term, AllocError>
+        requires { IsTypedOver self.old (node_of node) }
+        ensures { MatchResult result (λ t. IsInterned self.old self.new (node_of node) t.0) (λ e. self.new ≡ take stood self.old) }
+    {
+        match self.keep(node) {
+            Ok(term) => Ok(term),
+            Err(AllocError) => {
+                self.nodes.truncate(stood);
+                Err(AllocError)
+            }
+        }
+    }
+
     /// The term of a node over terms. Equal nodes have one term, and a node of which more is known has that of a smaller one. The error is out of memory; then
-    /// the terms are as they were, but for at most one more that has no gates.
+    /// the terms are as they were.
     pub fn mk(&mut self, node: Node) -> Result<Term, AllocError>
         requires { IsTypedOver self.old (node_of node) }
-        ensures { MatchResult result (λ t. IsMade self.old self.new (node_of node) t.0) (λ e. Grew self.old self.new 0 0 0 0 1) }
+        ensures { MatchResult result (λ t. IsMade self.old self.new (node_of node) t.0) (λ e. self.new ≡ self.old) }
     {
+        let stood = self.nodes.len();
         match fold(self.nodes.as_slice(), node) {
             Folded::Old(term) => Ok(term),
             Folded::New(node) => {
@@ -165,12 +180,13 @@ impl Dag {
             }
             Folded::Onto(op, width, left, value) => {
                 let right = self.keep(Node::Constant { width, value })?;
-                let term = self.keep(Node::Binary {
+                let node = Node::Binary {
                     op,
                     width,
                     left,
                     right,
-                })?;
+                };
+                let term = self.keep_or_leave(stood, node)?;
                 Ok(term)
             }
             Folded::Unless(bit, other) => {
@@ -179,12 +195,13 @@ impl Dag {
                     term: other,
                 })?;
                 let (left, right) = by_place(bit, negation);
-                let term = self.keep(Node::Binary {
+                let node = Node::Binary {
                     op: Op::And,
                     width: 1,
                     left,
                     right,
-                })?;
+                };
+                let term = self.keep_or_leave(stood, node)?;
                 Ok(term)
             }
         }
