@@ -1,5 +1,5 @@
 -- A verification's answer is the report of what the program comes to, and there is one such answer but for the run that it shows.
-use Rattle.std.proofs.Common.{◌≡◌, ◌≢◌, ℕ, ◌<◌, ◌≤◌, refl, ap, sym, ◌∙◌, subst, arith, List, [], Some}
+use Rattle.std.proofs.Common.{◌≡◌, ◌≢◌, ℕ, ◌<◌, ◌≤◌, refl, ap, sym, ◌∙◌, subst, arith, List, Some}
 use Rattle.call_spec.specs.Outside.{Held, Bytes, Agrees, Rose, Appends}
 use Rattle.bilv_spec.specs.Run.{Program, Run, Failed, Turned, IsOver}
 use Rattle.machine_spec.specs.Endings.{Event}
@@ -15,11 +15,11 @@ use Rattle.notes_spec.specs.Verified.{IsAccepted, IsFound, AfterImage, elf_refus
 use Rattle.command_spec.specs.Commands.{Verify}
 use Rattle.answer_spec.specs.FrameAnswers.{dialect_for, IsFrameFound, AfterFrames, frames_refused, frames_found, IsFrameReported, IsVerifiedWhole}
 use Rattle.answer_spec.specs.Outcomes.{IsOutcome, whole, cut, no_memory}
-use Rattle.answer_spec.proofs.Wholes.{by_invariants, found_program, one_whole, programs_are_whole}
+use Rattle.answer_spec.proofs.Wholes.{by_frames, found_program, one_whole, programs_are_whole}
 use Rattle.bilv_spec.proofs.AllPoints.{one_price}
 use Rattle.bilv_spec.proofs.One.{one_verdict}
 use Rattle.bilv_spec.proofs.Over.{one_end}
-use Rattle.answer_laws.specs.Completeness.{Finding, TooManyPoints, TooLarge, HasVerdict, ComesTo, Says, IsSpentEvidence, ShowsRun, Answers, elf_is_refused, notes_are_refused, is_reported, frames_are_reported, AreTold, HasBytes, AreSameButRun}
+use Rattle.answer_laws.specs.Completeness.{Finding, TooManyPoints, TooLarge, HasVerdict, ComesTo, Says, IsSpentEvidence, Answers, elf_is_refused, notes_are_refused, is_reported, frames_are_reported, AreTold, HasFrames, HasBytes, AreSameButRun}
 use Rattle.answer_laws.proofs.FoundFrames.{rows_of, reads_of}
 use Rattle.answer_laws.proofs.SameFrames.{frames_alike, same_answer}
 use Rattle.answer_laws.proofs.OneProgram.{one_program, one_elf_refusal, refused_or_accepted, one_refusal_in, not_refused, not_refused_whole}
@@ -67,8 +67,8 @@ by_notes : (o : Options) (file text : List ℕ) (b : Budget) (a : Answer) → (�
     AfterFrames o file text (IsVerifiedWhole (layout_of o file) b) a → Answers o file text b a
 by_notes o file text b a unspent accepted (frames_refused written h is) = notes_are_refused written accepted h is
 by_notes o file text b a unspent accepted (frames_found w found next) =
-    by_invariants w.invariants _ _ (Answers o file text b a)
-    (λ none right. reported o file text b a w.program unspent (found_program o file text w none found) right)
+    by_frames w.invariants w.contracts _ _ (Answers o file text b a)
+    (λ none free right. reported o file text b a w.program unspent (found_program o file text w none free found) right)
     (λ some right. frames_are_reported w found some right unspent) next
 
 pub read_calm : {Next : List ℕ → Answer → Type 0} {a : Answer} (s : Surroundings) (name file : List ℕ) → s.held name ≡ Bytes file →
@@ -220,9 +220,9 @@ two_reports o file b p q f g r t e d same x y s u right other =
     one_report q (layout_of o file) b g r t e d (subst (Says r) finding s) u
     (subst (λ (z : Program). IsRightReport z (layout_of o file) b r e) same right) other
 
--- a program has no invariants
-no_frames : (o : Options) (file text : List ℕ) (w : Whole) (p : Program) → IsFrameFound o file text w → w.invariants ≢ [] → IsFound o file text p → ⊥
-no_frames o file text w p found some is = some ((programs_are_whole o file text p is).1 w found).1
+-- a program has neither invariants nor contracts
+no_frames : (o : Options) (file text : List ℕ) (w : Whole) (p : Program) → IsFrameFound o file text w → HasFrames w → IsFound o file text p → ⊥
+no_frames o file text w p found some is = let none = (programs_are_whole o file text p is).1 w found in some none.1 none.2
 
 pub one_answer : (o : Options) (file text : List ℕ) (b : Budget) (a c : Answer) → HasBytes o file text → Answers o file text b a →
     Answers o file text b c → AreSameButRun a c
@@ -249,8 +249,8 @@ one_answer o file text b a c bytes (frames_are_reported w found some right unspe
 one_answer o file text b a c bytes (frames_are_reported w found some right unspent) (is_reported p f r e too x s other i) =
     absurd (no_frames o file text w p found some too)
 one_answer o file text b a c bytes (frames_are_reported w found some right unspent) (frames_are_reported v too any other calm) =
-    let same : v ≡ w = (one_whole o file text w found).1 v too in
-    frames_alike w (layout_of o file) b (rows_of o file text w (bytes w found some) found) (reads_of o file text w (bytes w found some) found) (one_whole o file text w found).0 a c unspent
+    let same : v ≡ w = one_whole o file text w v found too in
+    frames_alike w (layout_of o file) b (rows_of o file text w (bytes w found some) found) (reads_of o file text w (bytes w found some) found) a c unspent
     calm right (subst (λ (z : Whole). IsFrameReported z (layout_of o file) b c) same other)
 one_answer o file text b a c bytes (elf_is_refused v x i) (frames_are_reported w found some right unspent) =
     absurd (refused_or_accepted file v x found.0)

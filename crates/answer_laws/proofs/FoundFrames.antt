@@ -1,4 +1,4 @@
--- What is known of two files with invariants: their rows and words, and where rows stand.
+-- What is known of two files with invariants or contracts: their rows and words, and where rows stand.
 use Rattle.std.proofs.Common.{ℕ, ◌<◌, ◌^◌, refl, sym, subst, arith, Bool, true, false, List, []}
 use Rattle.std.specs.Prelude.{◌==◌, if◌then◌else◌}
 use Rattle.word_spec.specs.Memory.{Endian, number}
@@ -26,7 +26,7 @@ use Rattle.notes_spec.specs.Scopes.{in_dialect}
 use Rattle.answer_spec.specs.FrameAnswers.{dialect_for, IsFrameFound}
 use Rattle.answer_spec.proofs.Wholes.{wholes_are_fitted}
 use Rattle.answer_laws.specs.Replayed.{AreBytes}
-use Rattle.answer_laws.proofs.NoteLines.{HasFewLines, text_lines}
+use Rattle.answer_laws.proofs.NoteLines.{HasFewLines, HaveFewLines, contract_lines, text_lines}
 
 module _ (o : Options) (file : List ℕ) (bytes : AreBytes file) (notes : Notes) (entry : ℕ) where
   rows : HasLawfulRows (program_of (machine_of o file) file notes entry)
@@ -52,12 +52,12 @@ taken_small narrow w small = by (width narrow (first_half w) == 2)
     by true = omega arith
     by false = small
 
-word_small : (p : Program) → ((a : ℕ) → byte_of_cell (p.loaded a) < 256) → (a : ℕ) → file_word p a < 2 ^ 32
+pub word_small : (p : Program) → ((a : ℕ) → byte_of_cell (p.loaded a) < 256) → (a : ℕ) → file_word p a < 2 ^ 32
 word_small p small a =
     taken_small p.machine.narrow (number p.machine.endian 4 (λ i. byte_of_cell (p.loaded (add 32 a i))))
     (load_below p.machine.endian 32 (λ x. byte_of_cell (p.loaded x)) a refl small)
 
-fitted_by : (b : Bool) (e : Endian) (o : Options) →
+pub fitted_by : (b : Bool) (e : Endian) (o : Options) →
     IsFitted (if b then rv32 o.compressed else arm e o.profile) (if b then rv_layout o.compressed else arm_layout e o.profile)
 fitted_by true e o = rv_is_fitted o.compressed
 fitted_by false e o = arm_is_fitted e o.profile
@@ -86,3 +86,9 @@ lines_of_whole o file text w found =
     let is = found.2 in
     let few = text_lines (in_dialect (dialect_for text) (vocabulary_of o file)) text is.0.notes is.2.is_notes in
     subst (λ (v : Whole). HasFewLines v.program) (sym is.4) (record { asserts = few.0; ensures = few.1 })
+
+-- and so have their contracts
+pub lines_of_contracts : (o : Options) (file text : List ℕ) (w : Whole) → IsFrameFound o file text w → HaveFewLines w.contracts
+lines_of_contracts o file text w found =
+    let is = found.2 in
+    subst (λ (v : Whole). HaveFewLines v.contracts) (sym is.4) (contract_lines (in_dialect (dialect_for text) (vocabulary_of o file)) text is.0 is.2)

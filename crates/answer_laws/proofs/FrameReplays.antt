@@ -1,53 +1,52 @@
 -- The text of a right report over frames is replayed.
-use Rattle.std.proofs.Common.{◌≡◌, ◌≢◌, ℕ, zero, suc, ◌+◌, ◌-◌, ◌%◌, ◌<◌, ◌≤◌, ◌^◌, refl, ap, sym, ◌∙◌, subst, arith, Bool, true, false, List, [], ◌∷◌, ◌++◌, Option, Some, None, length}
-use Rattle.std.specs.Prelude.{nat_lt, codes, reverse, Contains, All, is_some, get_or, if◌then◌else◌}
-use Rattle.std.specs.List.{AllZip}
+use Rattle.std.proofs.Common.{◌≡◌, ◌≢◌, ℕ, zero, suc, ◌+◌, ◌-◌, ◌*◌, ◌<◌, ◌≤◌, ◌^◌, refl, ap, sym, ◌∙◌, subst, arith, Bool, true, false, List, [], ◌∷◌, ◌++◌, Option, Some, None, length, map}
+use Rattle.std.specs.Prelude.{◌==◌, nat_eq, nat_lt, codes, reverse, Contains, All, filter, get_or, is_some, slice_get, take, if◌then◌else◌}
+use Rattle.std.specs.List.{AllZip, list_any}
 use Rattle.std.proofs.lemmas.Bool.Decides.{nat_tests}
-use Rattle.std.proofs.lemmas.Bool.{eq-eqb}
-use Rattle.std.proofs.Math.Numerals.{add-one}
 use Rattle.std.proofs.lemmas.List.{length-reverse, get_or-reverse}
-use Rattle.word_spec.specs.Memory.{Endian}
-use Rattle.word_spec.specs.Words.{word}
-use Rattle.word_spec.specs.Texts.{line, joined}
+use Rattle.word_spec.specs.Words.{bit_at, word}
+use Rattle.word_spec.specs.Texts.{line, lines, joined}
+use Rattle.word_spec.specs.RowFiles.{from_to}
 use Rattle.word_spec.specs.State.{Written}
-use Rattle.machine_spec.specs.Machine.{IsAtPlace, is_place, unit}
-use Rattle.machine_spec.specs.Endings.{Event, AssertFails, FetchFails, NoRow, HalfwordFails, CodeWritten, Trapped, AlignFails, JumpFails, EnsureFails}
+use Rattle.machine_spec.specs.Machine.{IsAtPlace}
 use Rattle.machine_spec.specs.StateText.{Layout, IsWritten, AreRising, last_step, start_of, rv_layout, arm_layout}
-use Rattle.machine_spec.proofs.Spelling.{same_number}
 use Rattle.bilv_spec.specs.Files.{layout_of, is_rv}
 use Rattle.bilv_spec.specs.Elf.{file_endian}
 use Rattle.bilv_spec.specs.Points.{is_known_at}
 use Rattle.bilv_spec.specs.PointLaws.{HasLawfulRows, ReadsMemory, IsReturnAddress}
 use Rattle.bilv_spec.specs.Answers.{known_byte}
-use Rattle.bilv_spec.specs.Run.{Program, Place}
-use Rattle.bilv_spec.specs.Verdict.{IsEntryState}
-use Rattle.bilv_spec.specs.Replays.{same_event}
 use Rattle.call_spec.specs.Calls.{Options, Budget, plain_answer}
 use Rattle.clause_spec.specs.Checks.{text_limit}
-use Rattle.frame_spec.specs.Frames.{Content, Frame, FrameEvent, OfStep, InvariantFails, NeedsFails, WritesFails, GivesFails, ModifiesFails}
-use Rattle.frame_spec.specs.FrameRuns.{Start, Run, Going, Arriving, Calling, Exited, Failed, Turned, Cut, Broken, one_more, run}
-use Rattle.frame_spec.specs.FramePoints.{AtHead, Point, IsPoint, IsAnchor, ArePoints, first_of}
+use Rattle.frame_spec.specs.Frames.{Contract, Frame, FrameEvent, contract_at}
+use Rattle.frame_spec.specs.FrameRuns.{Start, Run, Failed, Turned, run}
+use Rattle.frame_spec.specs.FramePoints.{AtHead, Point, IsAnchor, ArePoints, first_of}
 use Rattle.frame_spec.specs.FramePoints as points
-use Rattle.frame_spec.specs.FrameFound.{Found, FoundEvent, FoundTurn, found, found_by}
 use Rattle.frame_spec.specs.FrameLaws.{HasPlaces}
-use Rattle.frame_spec.specs.FrameVerdict.{Whole, IsOrigin, IsStart, frame_of}
-use Rattle.frame_spec.specs.FrameReports.{WrittenHead, WrittenCall, Shown, IsWithin, IsShown, Report, HoldsReport, PartialReport, VacuousReport, NamedReport, NotInductiveReport, UnprovedReport, PointsReport, SizeReport, ConflictsReport, ByEvent, ByTurn, Evidence, PassedBy, Frames, ShownBy, SpentOn, Count, EndsAs, IsRightReport, head_of, choices_of, gifts, registers_of, shown_start, ranks}
+use Rattle.frame_spec.specs.FrameVerdict.{Whole, IsOrigin, IsStart, contract_frame, entry_frame, frame_by, frame_of}
+use Rattle.frame_spec.specs.FrameReports.{WrittenHead, WrittenCall, Shown, IsWithin, IsShown, IsMade, IsWrittenCall, Report, HoldsReport, PartialReport, VacuousReport, NamedReport, NotInductiveReport, UnprovedReport, PointsReport, SizeReport, ConflictsReport, ByEvent, ByTurn, Evidence, PassedBy, Frames, ShownBy, SpentOn, Count, EndsAs, IsRightReport, head_of, choices_of, gifts, last_rank, registers_of, shown_start}
 use Rattle.frame_spec.proofs.Stacks.{AreAll, anchor_words}
 use Rattle.frame_spec.proofs.SegmentsMeet.{stack_places}
 use Rattle.frame_laws.specs.SegmentEnds.{step_of}
 use Rattle.frame_laws.proofs.FewSteps.{steps_are_few, wholes_are_few}
 use Rattle.frame_laws.proofs.FrameGraph as graphs
-use Rattle.frame_texts_spec.specs.FrameTexts.{FramedEnding, FramedFails, FramedTurns, NotInductiveBy, FramedText, IsFramedEnding, IsFramed, IsHeadPart, framed_of, framed_printed, ending_words, shown_of}
-use Rattle.frame_texts_spec.specs.FrameTextLaws.{IsReadBackIn}
-use Rattle.frame_texts_spec.specs.FrameReplays.{TellsReturns, checks_of, same_frame_event, is_found, found_of, ending_answer, head_answer, require_answer, start_answer, run_answer, told_answer, sized_answer, frame_replay_answer, false_at_head}
-use Rattle.frame_texts_spec.proofs.PartsBack.{printed_is_read_back}
-use Rattle.answer_spec.specs.FrameAnswers.{frame_report_text}
+use Rattle.frame_texts_spec.specs.FrameTexts.{FramedEnding, FramedFails, FramedTurns, NotInductiveBy, IsFramedEnding, IsHeadPart, framed_printed, ending_words}
+use Rattle.frame_texts_spec.specs.FrameReplays.{TellsReturns}
+use Rattle.frame_texts_spec.specs.CallTexts.{FrameName, EntryFrame, ContractFrame, CallEnding, Plain, UnprovedBy, UnprovedTurns, CallText, Changes, IsFrameName, IsCallEnding, IsCallText, IsBlock, but_last, call_ending_words, call_printed, call_text_of, flags_by, frame_name}
+use Rattle.frame_texts_spec.specs.CallTextLaws.{HasContracts, HasTurns, IsCallReadBackIn}
+use Rattle.frame_texts_spec.specs.CallReplays.{call_checks, call_replay_answer, call_run_answer, call_sized_answer, call_told_answer, changes_by, changes_of, frame_named, rank_named, report_of}
+use Rattle.frame_texts_spec.proofs.CallsBack.{before_end, but_last_is, parts_end, printed_blocks_are_read_back}
+use Rattle.frame_texts_spec.proofs.ProgramBlocks.{changes_are_of_layout}
+use Rattle.frame_texts_spec.proofs.Replaying.{frame_reports_replay}
+use Rattle.answer_spec.specs.FrameAnswers.{IsFrameFound, frame_report_text, name_by, name_of}
+use Rattle.answer_spec.proofs.CallReplays.{no_head}
+use Rattle.answer_spec.proofs.FrameNames.{frames_are_named, is_there}
+use Rattle.answer_spec.proofs.Wholes.{wholes_are_fitted}
 use Rattle.answer_laws.specs.FrameReplayed.{ending_of_report, FrameReportReplays}
-use Rattle.answer_laws.specs.Replayed.{IsReplayable}
-use Rattle.answer_laws.proofs.FramedEnds.{frame_by, IsFineEnd, ends_fine, fails_at, turns_at}
-use Rattle.answer_laws.proofs.FoundFrames.{rows_of, reads_of, places_of, lines_of_whole}
-use Rattle.answer_laws.proofs.NoteLines.{HasFewLines}
-use Rattle.answer_spec.proofs.Wholes.{one_whole}
+use Rattle.answer_laws.specs.Replayed.{AreBytes, IsReplayable}
+use Rattle.answer_laws.proofs.OfMachine.{wholes_are_of_machine}
+use Rattle.answer_laws.proofs.FramedEnds.{IsFew, HasFewGiven, IsFineEnd, ends_fine, stands_low}
+use Rattle.answer_laws.proofs.FoundFrames.{rows_of, reads_of, places_of, lines_of_whole, lines_of_contracts}
+use Rattle.answer_laws.proofs.NoteLines.{HaveFewLines}
 
 -- ---- lists
 
@@ -72,26 +71,55 @@ both : (P Q R : ℕ → Type 0) (xs : List ℕ) → ((x : ℕ) → P x → Q x �
 both P Q R [] h a b = tt
 both P Q R (x ∷ xs) h a b = (h x a.0 b.0, both P Q R xs h a.1 b.1)
 
--- ---- events and starts
+-- what stands at the place of one of numbers that rise by one
+zip_at : (P : ℕ → ℕ → Type 0) (start count : ℕ) (ys : List ℕ) (i : ℕ) → AllZip P (from_to start count) ys → i < count → (y : ℕ) × P (start + i) y
+zip_at P start zero ys i h l = absurd (omega (arith, l))
+zip_at P start (suc count) [] i h l = absurd h
+zip_at P start (suc count) (y ∷ ys) zero h l = (y, subst (λ n. P n y) (let e : start ≡ start + 0 = omega arith in e) h.0)
+zip_at P start (suc count) (y ∷ ys) (suc i) h l =
+    let later = zip_at P (start + 1) count ys i h.1 (omega (arith, l)) in
+    (later.0, subst (λ n. P n later.0) (let e : start + 1 + i ≡ start + suc i = omega arith in e) later.1)
 
-same_events : (e : Event) → same_event e e ≡ true
-same_events (AssertFails n) = same_number n
-same_events FetchFails = refl
-same_events NoRow = refl
-same_events HalfwordFails = refl
-same_events CodeWritten = refl
-same_events Trapped = refl
-same_events AlignFails = refl
-same_events JumpFails = refl
-same_events (EnsureFails n) = same_number n
+-- ---- sets of flags
 
-same_frame_events : (e : FrameEvent) → same_frame_event e e ≡ true
-same_frame_events (OfStep e) = same_events e
-same_frame_events (InvariantFails n) = same_number n
-same_frame_events (NeedsFails n) = same_number n
-same_frame_events WritesFails = refl
-same_frame_events (GivesFails n) = same_number n
-same_frame_events ModifiesFails = refl
+nothing_more : (p n : ℕ) → n ≡ 0 * p + n
+nothing_more p n = omega arith
+
+-- the flags that a test leaves out are not in the set
+kept_bits : (test : ℕ → Bool) (set : ℕ) (flags : List ℕ) → ((f : ℕ) → bit_at f set ≡ 1 → test f ≡ true) →
+    flags_by (filter test flags) (map (λ f. bit_at f set) (filter test flags)) ≡ flags_by flags (map (λ f. bit_at f set) flags)
+kept_bits test set [] among = refl
+kept_bits test set (f ∷ flags) among = by (test f) refl (kept_bits test set flags among)
+  where
+    none : test f ≡ false → bit_at f set ≡ 0
+    none is = zero_bit (bit_at f set) (omega arith) (λ one. (let z : true ≡ false = sym (among f one) ∙ is in let no : ⊥ = cc in no))
+      where
+        zero_bit : (b : ℕ) → b < 2 → (b ≡ 1 → ⊥) → b ≡ 0
+        zero_bit zero low other = refl
+        zero_bit (suc zero) low other = absurd (other refl)
+        zero_bit (suc (suc b)) low other = absurd (omega (arith, low))
+
+    by : (t : Bool) → test f ≡ t →
+        flags_by (filter test flags) (map (λ g. bit_at g set) (filter test flags)) ≡ flags_by flags (map (λ g. bit_at g set) flags) →
+        flags_by (if t then f ∷ filter test flags else filter test flags) (map (λ g. bit_at g set) (if t then f ∷ filter test flags else filter test flags))
+        ≡ bit_at f set * 2 ^ f + flags_by flags (map (λ g. bit_at g set) flags)
+    by true is rest = ap (λ z. bit_at f set * 2 ^ f + z) rest
+    by false is rest =
+        rest ∙ nothing_more (2 ^ f) (flags_by flags (map (λ g. bit_at g set) flags))
+        ∙ sym (ap (λ z. z * 2 ^ f + flags_by flags (map (λ g. bit_at g set) flags)) (none is))
+
+-- a set of four flags is the sum of its bits
+four_bits : (set : ℕ) → set < 16 → flags_by (3 ∷ 2 ∷ 1 ∷ 0 ∷ []) (map (λ f. bit_at f set) (3 ∷ 2 ∷ 1 ∷ 0 ∷ [])) ≡ set
+four_bits set low = omega (arith, low)
+
+few_flags : (o : Options) (file : List ℕ) (set : ℕ) → set < 2 ^ length (layout_of o file).flags → set < 16
+few_flags o file set = by (is_rv file)
+  where
+    by : (b : Bool) → set < 2 ^ length (if b then rv_layout o.compressed else arm_layout (file_endian file) o.profile).flags → set < 16
+    by true l = omega (arith, l)
+    by false l = l
+
+-- ---- what is read back of the text of what is shown
 
 -- the start before a head part is written without choices, which its segment does not read
 abbrev cleared : Option WrittenHead → Written → Written
@@ -118,15 +146,37 @@ cleared_written : (layout : Layout) (known : ℕ → Bool) (o : Option WrittenHe
 cleared_written layout known None w h = h
 cleared_written layout known (Some part) w h = no_choices layout known w h
 
-same_text : (layout : Layout) (n : FramedEnding) (w : Written) (o : Option WrittenHead) →
+abbrev text_of : CallEnding → Shown → CallText
+text_of n s = record { named = n; start = cleared s.head s.start; head = s.head; calls = s.calls }
+
+-- a text without blocks, as one that may have them
+as_called : (layout : Layout) (changes : ℕ → Option Changes) (n : FramedEnding) (w : Written) (o : Option WrittenHead) →
+    framed_printed layout (record { named = n; start = w; head = o })
+    ≡ call_printed layout changes (record { named = Plain n; start = w; head = o; calls = [] })
+unfolding framed_printed call_printed
+as_called layout changes n w o =
+    let ends = parts_end layout w o in
+    ap (λ (ls : List (List ℕ)). lines (joined (ending_words n) ∷ ls))
+    (ends ∙ sym (ap (λ (ls : List (List ℕ)). but_last ls ++ codes "end" ∷ []) ends
+    ∙ ap (λ (ls : List (List ℕ)). ls ++ codes "end" ∷ []) (but_last_is (before_end layout w o) (codes "end"))))
+
+same_framed : (layout : Layout) (n : FramedEnding) (w : Written) (o : Option WrittenHead) →
     framed_printed layout (record { named = n; start = w; head = o }) ≡ framed_printed layout (record { named = n; start = cleared o w; head = o })
 unfolding framed_printed
-same_text layout n w None = refl
-same_text layout n w (Some h) = refl
+same_framed layout n w None = refl
+same_framed layout n w (Some h) = refl
 
--- what is read back of the text of what is shown
-abbrev text_of : FramedEnding → Shown → FramedText
-text_of n s = record { named = n; start = cleared s.head s.start; head = s.head }
+framed_text : (layout : Layout) (changes : ℕ → Option Changes) (n : FramedEnding) (s : Shown) → s.calls ≡ [] →
+    framed_printed layout (record { named = n; start = s.start; head = s.head }) ≡ call_printed layout changes (text_of (Plain n) s)
+framed_text layout changes n s none =
+    same_framed layout n s.start s.head ∙ as_called layout changes n (cleared s.head s.start) s.head
+    ∙ sym (ap (λ (calls : List WrittenCall). call_printed layout changes (record { named = Plain n; start = cleared s.head s.start; head = s.head; calls = calls })) none)
+
+called_text : (layout : Layout) (changes : ℕ → Option Changes) (n : CallEnding) (s : Shown) → s.head ≡ None →
+    call_printed layout changes (record { named = n; start = s.start; head = s.head; calls = s.calls }) ≡ call_printed layout changes (text_of n s)
+called_text layout changes n s none =
+    ap (λ (w : Written). call_printed layout changes (record { named = n; start = w; head = s.head; calls = s.calls }))
+    (sym (ap (λ (o : Option WrittenHead). cleared o s.start) none))
 
 same_state : (layout : Layout) (entry : ℕ) (known : ℕ → Option ℕ) (o : Option WrittenHead) (w : Written) →
     (start_of layout entry known (cleared o w)).state ≡ (start_of layout entry known w).state
@@ -137,82 +187,136 @@ same_choices : (o : Option WrittenHead) (w : Written) → choices_of (cleared o 
 same_choices None w = refl
 same_choices (Some h) w = refl
 
--- ---- segments of a program with invariants
+-- the start that is read back is the one that is shown
+read_start : (w : Whole) (f : Frame) (layout : Layout) (s : Shown) →
+    shown_start w f layout (record { start = cleared s.head s.start; head = s.head; calls = s.calls }) ≡ shown_start w f layout s
+read_start w f layout s = λ i. record {
+  state = same_state layout f.program.entry (λ a. known_byte f.program (word 32 a)) s.head s.start i;
+  head = head_of f layout s.head;
+  choices = same_choices s.head s.start i;
+  given = gifts (registers_of w) s.calls;
+}
 
-module _ (p : Program) (invariants : List ℕ) where
-  abbrev whole : Whole
-  whole = record { program = p; invariants = invariants; contracts = [] }
+-- ---- frames by their ranks
 
-  abbrev f : Frame
-  f = frame_by p invariants
+no_more : {A : Type 0} (xs : List A) → slice_get xs (length xs) ≡ None
+no_more [] = refl
+no_more (x ∷ xs) = no_more xs
 
-  -- no step is a contract's, so what one would be given does not matter
-  same_more : (k : ℕ) (start : Start) (given : ℕ → Content) (r : Run) → one_more f k (record start { given = given }) r ≡ one_more f k start r
-  same_more k start given (Going t n c) = refl
-  same_more k start given (Arriving t n c) = refl
-  same_more k start given (Calling t n c) = refl
-  same_more k start given (Exited at n) = refl
-  same_more k start given (Failed e at n) = refl
-  same_more k start given (Turned at n) = refl
-  same_more k start given (Cut at n) = refl
-  same_more k start given (Broken line at n) = refl
+named_is : (w : Whole) (name : FrameName) → frame_of w (rank_named w name) ≡ frame_named w name
+named_is w EntryFrame = ap (frame_by w (last_rank w)) (no_more w.contracts)
+named_is w (ContractFrame a) = refl
 
-  same_run : (k : ℕ) (start : Start) (given : ℕ → Content) (n : ℕ) → run f k (record start { given = given }) n ≡ run f k start n
-  unfolding run
-  same_run k start given zero = refl
-  same_run k start given (suc n) = ap (one_more f k (record start { given = given })) (same_run k start given n) ∙ same_more k start given (run f k start n)
+by_rank : (w : Whole) (P : Frame → Type 0) → P (entry_frame w) →
+    ((rank : ℕ) (x : Contract) → slice_get w.contracts rank ≡ Some x → P (contract_frame w rank x)) → (rank : ℕ) → P (frame_of w rank)
+by_rank w P entry of_contract rank = by (slice_get w.contracts rank) refl
+  where
+    by : (o : Option Contract) → slice_get w.contracts rank ≡ o → P (frame_by w rank o)
+    by None is = entry
+    by (Some x) is = of_contract rank x is
 
-  -- the start that is read back makes the run of the one that is shown
-  abbrev shown_of_text : Layout → FramedEnding → Shown → Start
-  shown_of_text layout n s = shown_start whole f layout (shown_of (text_of n s))
+few_first : (n : ℕ) (contracts : List Contract) → HaveFewLines contracts → HaveFewLines (take n contracts)
+few_first zero contracts few = tt
+few_first (suc n) [] few = tt
+few_first (suc n) (x ∷ rest) few = (few.0, few_first n rest few.1)
 
-  read_start : (layout : Layout) (n : FramedEnding) (s : Shown) →
-      shown_of_text layout n s ≡ record (shown_start whole f layout s) { given = gifts (registers_of whole) [] }
-  read_start layout n s = λ i. record {
-    state = same_state layout p.entry (λ a. known_byte p (word 32 a)) s.head s.start i;
-    head = head_of f layout s.head;
-    choices = same_choices s.head s.start i;
-    given = gifts (registers_of whole) [];
-  }
+few_one : (contracts : List Contract) (rank : ℕ) (x : Contract) → HaveFewLines contracts → slice_get contracts rank ≡ Some x → HasFewGiven (Some x)
+few_one [] rank x few is = absurd (let no : ⊥ = cc in no)
+few_one (y ∷ rest) zero x few is = let same : y ≡ x = cc in subst (λ (z : Contract). HasFewGiven (Some z)) same few.0
+few_one (y ∷ rest) (suc rank) x few is = few_one rest rank x few.1 is
 
-  read_run : (k : ℕ) (layout : Layout) (n : FramedEnding) (s : Shown) (m : ℕ) →
-      run f k (shown_of_text layout n s) m ≡ run f k (shown_start whole f layout s) m
-  read_run k layout n s m =
-      ap (λ x. run f k x m) (read_start layout n s) ∙ same_run k (shown_start whole f layout s) (gifts (registers_of whole) []) m
+-- what is found among the first contracts is found among all
+first_by : (y : Contract) (n : ℕ) (rest : List Contract) (a : ℕ) (x : Contract) (b : Bool) →
+    (contract_at (take n rest) a ≡ Some x → contract_at rest a ≡ Some x) →
+    (if b then Some y else contract_at (take n rest) a) ≡ Some x → (if b then Some y else contract_at rest a) ≡ Some x
+first_by y n rest a x true h e = e
+first_by y n rest a x false h e = h e
 
-  -- ---- what is named and shown can be written
+first_found : (n : ℕ) (l : List Contract) (a : ℕ) (x : Contract) → contract_at (take n l) a ≡ Some x → contract_at l a ≡ Some x
+first_found zero l a x e = absurd (let no : ⊥ = cc in no)
+first_found (suc n) [] a x e = absurd (let no : ⊥ = cc in no)
+first_found (suc n) (y ∷ rest) a x e = first_by y n rest a x (y.at == a) (first_found n rest a x) e
 
-  at_most : (a b : ℕ) → (b < a → ⊥) → a ≤ b
-  at_most a b h = by (nat_lt b a) refl
-    where
-      by : (t : Bool) → nat_lt b a ≡ t → a ≤ b
-      by true e = absurd (h (grind (arith, nat_tests)))
-      by false e = grind (arith, nat_tests)
+at_most : (a b : ℕ) → (b < a → ⊥) → a ≤ b
+at_most a b h = by (nat_lt b a) refl
+  where
+    by : (t : Bool) → nat_lt b a ≡ t → a ≤ b
+    by true e = absurd (h (grind (arith, nat_tests)))
+    by false e = grind (arith, nat_tests)
 
-  module _ (b : Budget) (small : IsReplayable b) (within : IsWithin whole b) where
-    points_of : (prices : List ℕ) → AllZip (λ rank n. points.IsPrice (frame_of whole rank) b.unroll n) (ranks whole) prices →
-        (list : List Point) × ArePoints f b.unroll list
-    points_of [] h = absurd h
-    points_of (n ∷ rest) h = (h.0.0, h.0.3)
+-- what is known of a frame of two files
+record IsKnown (w : Whole) (f : Frame) : Type 0 where
+  lawful : HasLawfulRows f.program
+  memory : ReadsMemory f.program
+  places : HasPlaces f.program
+  few : IsFew f
+  among : (a : ℕ) (x : Contract) → contract_at f.stepped a ≡ Some x → contract_at w.contracts a ≡ Some x
 
+module _ (o : Options) (file text : List ℕ) (w : Whole) (bytes : AreBytes file) (found : IsFrameFound o file text w) (b : Budget) (small : IsReplayable b) where
+  abbrev layout : Layout
+  layout = layout_of o file
+
+  known : (rank : ℕ) → IsKnown w (frame_of w rank)
+  known = by_rank w (IsKnown w)
+      (record {
+        lawful = rows_of o file text w bytes found;
+        memory = reads_of o file text w bytes found;
+        places = places_of o file text w bytes found;
+        few = record { lines = lines_of_whole o file text w found; own = tt; stepped = lines_of_contracts o file text w found };
+        among = λ a x h. h;
+      })
+      (λ rank x is.
+      let memory = reads_of o file text w bytes found in
+      record {
+        lawful = rows_of o file text w bytes found;
+        memory = record { word = memory.word; little = memory.little };
+        places = record {
+          entry = ((wholes_are_fitted o file text w found).2 rank x is).place;
+          lengths = (places_of o file text w bytes found).lengths;
+        };
+        few = record {
+          lines = record { asserts = (lines_of_whole o file text w found).asserts; ensures = tt };
+          own = few_one w.contracts rank x (lines_of_contracts o file text w found) is;
+          stepped = few_first rank w.contracts (lines_of_contracts o file text w found);
+        };
+        among = λ a y h. first_found rank w.contracts a y h;
+      })
+
+  written : HasContracts layout w
+  written = (wholes_are_of_machine o file text w found).written
+
+  module _ (within : IsWithin w b) (rank : ℕ) (low : rank ≤ last_rank w) where
+    abbrev f : Frame
+    f = frame_of w rank
+
+    -- its points are at most as many as those of all frames
     listed : (list : List Point) × ArePoints f b.unroll list
-    listed = points_of within.is_price.0 within.is_price.1
+    listed =
+        let priced = zip_at (λ r n. points.IsPrice (frame_of w r) b.unroll n) 0 (length w.contracts + 1) within.is_price.0 rank within.is_price.1
+        (omega (arith, low)) in
+        let is : points.IsPrice (frame_of w rank) b.unroll priced.0 =
+        subst (λ r. points.IsPrice (frame_of w r) b.unroll priced.0) (let e : 0 + rank ≡ rank = omega arith in e) priced.1 in
+        (is.0, is.3)
 
-    few : length listed.0 ≤ b.points
-    few =
+    few_points : length listed.0 ≤ b.points
+    few_points =
         at_most (length listed.0) b.points
-        (λ more. wholes_are_few whole b.unroll b.points 0 (omega arith) within.points (listed.0, more, listed.1.only, listed.1.once))
+        (λ more. wholes_are_few w b.unroll b.points rank low within.points (listed.0, more, listed.1.only, listed.1.once))
 
-    module _ (lawful : HasLawfulRows p) (memory : ReadsMemory p) (places : HasPlaces p) (lines : HasFewLines p) (start : Start)
-        (is : IsStart f b.unroll start) where
+    module _ (s : Shown) (is : IsStart f b.unroll (shown_start w f layout s)) where
+      abbrev start : Start
+      start = shown_start w f layout s
+
       last : (r : Run) (n : ℕ) → run f b.unroll start n ≡ r → step_of r ≤ last_step
       last r n e =
-          let l = steps_are_few f lawful memory places b.unroll start is.entry is.origin is.given listed.0 listed.1 n in
+          let k = known rank in
+          let l = steps_are_few f k.lawful k.memory k.places b.unroll start is.entry is.origin is.given listed.0 listed.1 n in
           let m : step_of r < length listed.0 = subst (λ x. step_of x < length listed.0) e l in
-          let c = few in let d = small.1 in omega (arith, m, c, d)
+          let c = few_points in let d = small.1 in omega (arith, m, c, d)
 
       fine : (r : Run) (n : ℕ) → run f b.unroll start n ≡ r → IsFineEnd r
-      fine r n e = subst IsFineEnd e (ends_fine p invariants lawful memory lines b.unroll start is.entry is.origin is.given n)
+      fine r n e =
+          let k = known rank in subst IsFineEnd e (ends_fine f k.lawful k.memory k.few b.unroll start is.entry is.origin is.given n)
 
       fails_named : (e : FrameEvent) (at j n : ℕ) → run f b.unroll start n ≡ Failed e at j → IsFramedEnding (FramedFails e at j)
       fails_named e at j n h = let x = fine (Failed e at j) n h in (x.0, x.1, last (Failed e at j) n h)
@@ -220,202 +324,239 @@ module _ (p : Program) (invariants : List ℕ) where
       turns_named : (at j n : ℕ) → run f b.unroll start n ≡ Turned at j → IsFramedEnding (FramedTurns b.unroll at j)
       turns_named at j n h = (small.0, fine (Turned at j) n h, last (Turned at j) n h)
 
-  module _ (k : ℕ) (places : HasPlaces p) (layout : Layout) (returns : ℕ → Bool) (tells : TellsReturns p returns) where
-    -- the stack of an anchor is of return addresses
-    stack_told : (stack : List ℕ) (at : ℕ) → IsAnchor f k (AtHead (reverse stack) at) → All (λ r. (r < 2 ^ 32) × (returns r ≡ true)) stack
-    stack_told stack at anchor =
-        let first = first_of p.entry (AtHead (reverse stack) at) in
-        let behind = (graphs.of_point f k first anchor).1 in
-        let placed = stack_places f k places first anchor in
-        let told = each (λ r. IsAtPlace p.machine.narrow r → IsReturnAddress p r) (reverse stack) behind in
-        of_reverse (λ r. (r < 2 ^ 32) × (returns r ≡ true)) stack
-        (both (λ r. r < 2 ^ 32) (λ r. returns r ≡ true) (λ r. (r < 2 ^ 32) × (returns r ≡ true)) (reverse stack) (λ r x y. (x, y))
-        (anchor_words f k (reverse stack) at anchor)
-        (both (λ r. IsAtPlace p.machine.narrow r → IsReturnAddress p r) (IsAtPlace p.machine.narrow) (λ r. returns r ≡ true) (reverse stack)
-        (λ r x y. (tells r).1 (x y)) told placed))
-
-    framed : (n : FramedEnding) (s : Shown) → IsFramedEnding n → IsShown whole f layout s → IsStart f k (shown_start whole f layout s) →
-        IsFramed layout (checks_of whole returns) (text_of n s)
-    framed n s named shown is = record {
-      named = named;
-      start = cleared_written layout (is_known_at p) s.head s.start shown.entry;
-      head = part s.head refl is.origin;
-    }
-      where
-        part : (o : Option WrittenHead) → s.head ≡ o → IsOrigin f k (shown_start whole f layout s).state (head_of f layout o) →
-            (IsHeadPart layout (checks_of whole returns) (cleared o s.start) o)
-        part None e origin = tt
-        part (Some h) e origin = record {
-          no_choices = refl;
-          at = origin.1.state.pc;
-          head = origin.1.head;
-          stack = stack_told h.stack h.at origin.0;
-          start = shown.head h e;
-        }
+      -- a block is one of a contract, which may change what it has
+      block : (returns : ℕ → Bool) (c : WrittenCall) → IsWrittenCall w layout c → IsMade f b.unroll start c → IsBlock layout (call_checks w returns) c
+      block returns c is_written made =
+          let k = known rank in
+          let x = made.contract in
+          let there : contract_at w.contracts c.at ≡ Some x =
+          subst (λ a. contract_at w.contracts a ≡ Some x) (sym made.is.at) (k.among made.place.state.pc x made.stepped) in
+          let test = λ (g : ℕ). list_any (nat_eq g) x.flags in
+          let contract : Changes = record { registers = registers_of w c.at; flags = filter test (3 ∷ 2 ∷ 1 ∷ 0 ∷ []) } in
+          let is_contract : changes_of w c.at ≡ Some contract = ap (changes_by w c.at) there in
+          record {
+            step = is_written.step;
+            at = subst (λ a. a < 2 ^ 32) (sym made.is.at)
+                (stands_low f k.lawful k.memory k.few b.unroll start is.entry is.origin is.given made.steps made.turns c.step made.place made.comes);
+            contract = contract;
+            is_contract = is_contract;
+            has = changes_are_of_layout layout w returns written c.at contract is_contract;
+            count = is_written.count;
+            words = is_written.words;
+            flags = kept_bits test c.flags (3 ∷ 2 ∷ 1 ∷ 0 ∷ []) (λ g one. made.is.flags g one) ∙ four_bits c.flags (few_flags o file c.flags is_written.flags);
+            bytes = is_written.bytes;
+            bytes_rise = is_written.bytes_rise;
+          }
 
   -- ---- the answer
 
-  -- a start whose segment is found to end as is named
-  run_replays : (n : FramedEnding) (k : ℕ) (start : Start) → IsEntryState p start.state → IsOrigin f k start.state start.head →
-      is_found n (is_some start.head) (found_of f n start) ≡ true →
-      run_answer f n start ≡ plain_answer 0 (line (codes "replayed " ++ joined (ending_words n)))
-  run_replays n k start entry origin ends =
-      let link : is_place p.machine.narrow (start.state.regs p.machine.link) ≡ true =
-      eq-eqb (start.state.regs p.machine.link % unit p.machine.narrow) 0 entry.link in
-      ap (λ b. start_answer b f n start) link
-      ∙ ap (λ o. require_answer o (false_at_head f start.state start.head) n (is_some start.head) (found_of f n start)) entry.requires
-      ∙ ap (λ o. head_answer o n (is_some start.head) (found_of f n start)) (true_at start.head origin)
-      ∙ ap (λ b. ending_answer b n (is_some start.head) (found_of f n start)) ends
-    where
-      true_at : (o : Option Place) → IsOrigin f k start.state o → false_at_head f start.state o ≡ None
-      true_at None h = refl
-      true_at (Some c) h = h.1.invariants
+  module _ (returns : ℕ → Bool) (tells : w.invariants ≢ [] → TellsReturns w.program returns) where
+    -- the stack of an anchor of the entry's frame is of return addresses
+    stack_told : TellsReturns w.program returns → (stack : List ℕ) (at : ℕ) → IsAnchor (entry_frame w) b.unroll (AtHead (reverse stack) at) →
+        All (λ r. (r < 2 ^ 32) × (returns r ≡ true)) stack
+    stack_told told stack at anchor =
+        let e = entry_frame w in
+        let first = first_of w.program.entry (AtHead (reverse stack) at) in
+        let behind = (graphs.of_point e b.unroll first anchor).1 in
+        let placed = stack_places e b.unroll (places_of o file text w bytes found) first anchor in
+        let back = each (λ r. IsAtPlace w.program.machine.narrow r → IsReturnAddress w.program r) (reverse stack) behind in
+        of_reverse (λ r. (r < 2 ^ 32) × (returns r ≡ true)) stack
+        (both (λ r. r < 2 ^ 32) (λ r. returns r ≡ true) (λ r. (r < 2 ^ 32) × (returns r ≡ true)) (reverse stack) (λ r x y. (x, y))
+        (anchor_words e b.unroll (reverse stack) at anchor)
+        (both (λ r. IsAtPlace w.program.machine.narrow r → IsReturnAddress w.program r) (IsAtPlace w.program.machine.narrow) (λ r. returns r ≡ true)
+        (reverse stack) (λ r x y. (told r).1 (x y)) back placed))
 
-  found_failing : (e : FrameEvent) (at j k n : ℕ) (start : Start) → run f k start n ≡ Failed e at j → found f None start j ≡ FoundEvent e at j
-  found_failing e at j k n start h =
-      ap (λ r. found_by (run f (j + 1) start j) r)
-      (ap (λ m. run f (j + 1) start m) (add-one j) ∙ fails_at f start k (j + 1) n e at j (omega arith) h)
+    head_part : (s : Shown) → IsShown w (entry_frame w) layout s → (o : Option WrittenHead) → s.head ≡ o →
+        IsOrigin (entry_frame w) b.unroll (shown_start w (entry_frame w) layout s).state (head_of (entry_frame w) layout o) →
+        IsHeadPart layout ((call_checks w returns).frames EntryFrame) (cleared o s.start) o
+    head_part s shown None e origin = tt
+    head_part s shown (Some h) e origin =
+        let some : w.invariants ≢ [] =
+        λ none. (let z : true ≡ false = sym origin.1.head ∙ no_head (entry_frame w) h.at none in let no : ⊥ = cc in no) in
+        record {
+          no_choices = refl;
+          at = origin.1.state.pc;
+          head = origin.1.head;
+          stack = stack_told (tells some) h.stack h.at origin.0;
+          start = shown.head h e;
+        }
 
-  found_turning : (at j k n : ℕ) (start : Start) → run f k start n ≡ Turned at j → found f (Some k) start j ≡ FoundTurn at j
-  found_turning at j k n start h =
-      ap (λ r. found_by (run f k start j) r) (ap (λ m. run f k start m) (add-one j) ∙ turns_at f start k n at j h)
+    -- a text that is not too long, of a right report that names an ending
+    text_replays : (n : CallEnding) (s : Shown) → IsCallText layout (call_checks w returns) (text_of n s) → HasTurns b.unroll n →
+        IsRightReport w layout b (report_of w n) (ShownBy s) → (printed : List ℕ) → printed ≡ call_printed layout (changes_of w) (text_of n s) →
+        length printed ≤ text_limit → call_replay_answer w returns layout printed ≡ plain_answer 0 (line (codes "replayed " ++ joined (call_ending_words n)))
+    text_replays n s is turns right printed same room =
+        let f = frame_named w (frame_name n) in
+        let short : nat_lt text_limit (length printed) ≡ false = grind (arith, nat_tests) in
+        ap (λ t. call_sized_answer t w returns layout printed) short
+        ∙ ap (call_told_answer w layout) (ap (call_text_of layout (call_checks w returns)) same ∙ back (is_rv file) (call_checks w returns) (text_of n s) is)
+        ∙ ap (λ (x : Start). call_run_answer f n x s.calls) (read_start w f layout s)
+        ∙ frame_reports_replay w layout b n s turns right
+      where
+        back : (v : Bool) → IsCallReadBackIn (if v then rv_layout o.compressed else arm_layout (file_endian file) o.profile)
+        back true = printed_blocks_are_read_back.0 o.compressed
+        back false = printed_blocks_are_read_back.1 (file_endian file) o.profile
 
-  no_head : (o : Option WrittenHead) (layout : Layout) → o ≡ None → is_some (head_of f layout o) ≡ false
-  no_head o layout e = ap (λ x. is_some (head_of f layout x)) e
+    abbrev IsReplayed : Report → Evidence → CallEnding → Type 0
+    IsReplayed r e n =
+        length (frame_report_text w layout b r e) ≤ text_limit →
+        call_replay_answer w returns layout (frame_report_text w layout b r e) ≡ plain_answer 0 (line (codes "replayed " ++ joined (call_ending_words n)))
 
-  some_head : (o : Option WrittenHead) (layout : Layout) → o ≢ None → is_some (head_of f layout o) ≡ true
-  some_head None layout some = absurd (some refl)
-  some_head (Some h) layout some = refl
+    -- an ending of a segment of the entry's frame, without contract steps
+    plain_text : (n : FramedEnding) (s : Shown) → IsFramedEnding n → s.calls ≡ [] → IsShown w (entry_frame w) layout s →
+        IsStart (entry_frame w) b.unroll (shown_start w (entry_frame w) layout s) → IsCallText layout (call_checks w returns) (text_of (Plain n) s)
+    plain_text n s named none shown is = record {
+      named = named;
+      start = cleared_written layout (is_known_at w.program) s.head s.start shown.entry;
+      head = head_part s shown s.head refl is.origin;
+      calls = subst (All (IsBlock layout (call_checks w returns))) (sym none) (λ k d l. absurd (omega (arith, l)));
+      calls_rise = shown.calls_rise;
+    }
 
-  fails_found : (e : FrameEvent) (at j : ℕ) (b : Bool) (x : Found) → b ≡ false → x ≡ FoundEvent e at j → is_found (FramedFails e at j) b x ≡ true
-  fails_found e at j b x plain is =
-      ap (is_found (FramedFails e at j) b) is ∙ ap (λ c. is_found (FramedFails e at j) c (FoundEvent e at j)) plain
-      ∙ rw (same_frame_events e, same_number at, same_number j) refl
+    entry_low : last_rank w ≤ last_rank w
+    entry_low = omega arith
 
-  steps_found : (e : FrameEvent) (at j : ℕ) (b : Bool) (x : Found) → b ≡ true → x ≡ FoundEvent e at j → is_found (NotInductiveBy e at j) b x ≡ true
-  steps_found e at j b x some is =
-      ap (is_found (NotInductiveBy e at j) b) is ∙ ap (λ c. is_found (NotInductiveBy e at j) c (FoundEvent e at j)) some
-      ∙ rw (same_frame_events e, same_number at, same_number j) refl
+    entry_is : frame_of w (last_rank w) ≡ entry_frame w
+    entry_is = named_is w EntryFrame
 
-  turns_found : (k at j : ℕ) (b : Bool) (x : Found) → x ≡ FoundTurn at j → is_found (FramedTurns k at j) b x ≡ true
-  turns_found k at j b x is = ap (is_found (FramedTurns k at j) b) is ∙ rw (same_number at, same_number j) refl
+    plain_fails : IsWithin w b → (e : FrameEvent) (at j : ℕ) (s : Shown) → IsStart (entry_frame w) b.unroll (shown_start w (entry_frame w) layout s) →
+        EndsAs (entry_frame w) b.unroll (shown_start w (entry_frame w) layout s) (ByEvent e at j) → IsFramedEnding (FramedFails e at j)
+    plain_fails within e at j s is ends =
+        let start = subst (λ (g : Frame). IsStart g b.unroll (shown_start w g layout s)) (sym entry_is) is in
+        let end = subst (λ (g : Frame). EndsAs g b.unroll (shown_start w g layout s) (ByEvent e at j)) (sym entry_is) ends in
+        fails_named within (last_rank w) entry_low s start e at j end.0 end.1
 
-  module _ (layout : Layout) (back : IsReadBackIn layout) (k : ℕ) (places : HasPlaces p) (returns : ℕ → Bool) (tells : TellsReturns p returns) (s : Shown)
-      (shown : IsShown whole f layout s) (is : IsStart f k (shown_start whole f layout s)) where
-    -- a text of this start that is not too long
-    text_replays : (n : FramedEnding) → IsFramedEnding n →
-        is_found n (is_some (head_of f layout s.head)) (found_of f n (shown_of_text layout n s)) ≡ true →
-        length (framed_printed layout (record { named = n; start = s.start; head = s.head })) ≤ text_limit →
-        frame_replay_answer whole returns layout (framed_printed layout (record { named = n; start = s.start; head = s.head }))
-        ≡ plain_answer 0 (line (codes "replayed " ++ joined (ending_words n)))
-    text_replays n named ends room =
-        let text = framed_printed layout (record { named = n; start = s.start; head = s.head }) in
-        let short : nat_lt text_limit (length text) ≡ false = grind (arith, nat_tests) in
-        let same = same_text layout n s.start s.head in
-        let told = back (checks_of whole returns) (text_of n s) (framed k places layout returns tells n s named shown is) in
-        let entry = subst (IsEntryState p) (sym (same_state layout p.entry (λ a. known_byte p (word 32 a)) s.head s.start)) is.entry in
-        let origin = subst (λ x. IsOrigin f k x (head_of f layout s.head)) (sym (same_state layout p.entry (λ a. known_byte p (word 32 a)) s.head s.start)) is.origin in
-        ap (λ b. sized_answer b whole returns layout text) short
-        ∙ ap (told_answer whole layout) (ap (framed_of layout (checks_of whole returns)) same ∙ told)
-        ∙ run_replays n k (shown_of_text layout n s) entry origin ends
+    plain_turns : IsWithin w b → (at j : ℕ) (s : Shown) → IsStart (entry_frame w) b.unroll (shown_start w (entry_frame w) layout s) →
+        EndsAs (entry_frame w) b.unroll (shown_start w (entry_frame w) layout s) (ByTurn at j) → IsFramedEnding (FramedTurns b.unroll at j)
+    plain_turns within at j s is ends =
+        let start = subst (λ (g : Frame). IsStart g b.unroll (shown_start w g layout s)) (sym entry_is) is in
+        let end = subst (λ (g : Frame). EndsAs g b.unroll (shown_start w g layout s) (ByTurn at j)) (sym entry_is) ends in
+        turns_named within (last_rank w) entry_low s start at j end.0 end.1
 
-    pub failing_replays : (e : FrameEvent) (at j : ℕ) → s.head ≡ None → EndsAs f k (shown_start whole f layout s) (ByEvent e at j) →
-        IsFramedEnding (FramedFails e at j) →
-        length (framed_printed layout (record { named = FramedFails e at j; start = s.start; head = s.head })) ≤ text_limit →
-        frame_replay_answer whole returns layout (framed_printed layout (record { named = FramedFails e at j; start = s.start; head = s.head }))
-        ≡ plain_answer 0 (line (codes "replayed " ++ joined (ending_words (FramedFails e at j))))
-    failing_replays e at j none ends named room =
+    by_event : (e : FrameEvent) (at j : ℕ) (s : Shown) → IsRightReport w layout b (NamedReport (ByEvent e at j)) (ShownBy s) →
+        IsReplayed (NamedReport (ByEvent e at j)) (ShownBy s) (Plain (FramedFails e at j))
+    by_event e at j s right =
         let n = FramedFails e at j in
-        text_replays n named
-        (fails_found e at j (is_some (head_of f layout s.head)) (found_of f n (shown_of_text layout n s)) (no_head s.head layout none)
-        (found_failing e at j k ends.0 (shown_of_text layout n s) (read_run k layout n s ends.0 ∙ ends.1))) room
+        text_replays (Plain n) s (plain_text n s (plain_fails right.0 e at j s right.4 right.5) right.2 right.3 right.4) tt right
+        (frame_report_text w layout b (NamedReport (ByEvent e at j)) (ShownBy s)) (framed_text layout (changes_of w) n s right.2)
 
-    pub stepping_replays : (e : FrameEvent) (at j : ℕ) → s.head ≢ None → EndsAs f k (shown_start whole f layout s) (ByEvent e at j) →
-        IsFramedEnding (NotInductiveBy e at j) →
-        length (framed_printed layout (record { named = NotInductiveBy e at j; start = s.start; head = s.head })) ≤ text_limit →
-        frame_replay_answer whole returns layout (framed_printed layout (record { named = NotInductiveBy e at j; start = s.start; head = s.head }))
-        ≡ plain_answer 0 (line (codes "replayed " ++ joined (ending_words (NotInductiveBy e at j))))
-    stepping_replays e at j some ends named room =
+    by_turn : (at j : ℕ) (s : Shown) → IsRightReport w layout b (NamedReport (ByTurn at j)) (ShownBy s) →
+        IsReplayed (NamedReport (ByTurn at j)) (ShownBy s) (Plain (FramedTurns b.unroll at j))
+    by_turn at j s right =
+        let n = FramedTurns b.unroll at j in
+        text_replays (Plain n) s (plain_text n s (plain_turns right.0 at j s right.4 right.5) right.2 right.3 right.4) refl right
+        (frame_report_text w layout b (NamedReport (ByTurn at j)) (ShownBy s)) (framed_text layout (changes_of w) n s right.2)
+
+    by_step : (e : FrameEvent) (at j : ℕ) (s : Shown) → IsRightReport w layout b (NotInductiveReport e at j) (ShownBy s) →
+        IsReplayed (NotInductiveReport e at j) (ShownBy s) (Plain (NotInductiveBy e at j))
+    by_step e at j s right =
         let n = NotInductiveBy e at j in
-        text_replays n named
-        (steps_found e at j (is_some (head_of f layout s.head)) (found_of f n (shown_of_text layout n s)) (some_head s.head layout some)
-        (found_failing e at j k ends.0 (shown_of_text layout n s) (read_run k layout n s ends.0 ∙ ends.1))) room
+        text_replays (Plain n) s (plain_text n s (plain_fails right.0 e at j s right.6 right.7) right.4 right.5 right.6) tt right
+        (frame_report_text w layout b (NotInductiveReport e at j) (ShownBy s)) (framed_text layout (changes_of w) n s right.4)
 
-    pub turning_replays : (at j : ℕ) → EndsAs f k (shown_start whole f layout s) (ByTurn at j) → IsFramedEnding (FramedTurns k at j) →
-        length (framed_printed layout (record { named = FramedTurns k at j; start = s.start; head = s.head })) ≤ text_limit →
-        frame_replay_answer whole returns layout (framed_printed layout (record { named = FramedTurns k at j; start = s.start; head = s.head }))
-        ≡ plain_answer 0 (line (codes "replayed " ++ joined (ending_words (FramedTurns k at j))))
-    turning_replays at j ends named room =
-        let n = FramedTurns k at j in
-        text_replays n named
-        (turns_found k at j (is_some (head_of f layout s.head)) (found_of f n (shown_of_text layout n s))
-        (found_turning at j k ends.0 (shown_of_text layout n s) (read_run k layout n s ends.0 ∙ ends.1))) room
+    -- ---- frames that are not proved
 
--- ---- the report
+    -- the name of a frame is one that can be written
+    name_told : (rank : ℕ) (s : Shown) → IsStart (frame_of w rank) b.unroll (shown_start w (frame_of w rank) layout s) →
+        IsFrameName (call_checks w returns) (name_of w rank)
+    name_told rank s is = by (slice_get w.contracts rank) refl is
+      where
+        by : (c : Option Contract) → slice_get w.contracts rank ≡ c → IsStart (frame_by w rank c) b.unroll (shown_start w (frame_by w rank c) layout s) →
+            IsFrameName (call_checks w returns) (name_by c)
+        by None e begun = tt
+        by (Some x) e begun = (
+          subst (λ a. a < 2 ^ 32) begun.entry.pc begun.entry.state.pc,
+          some_change (contract_at w.contracts x.at) (is_there w.contracts rank x e),
+        )
+          where
+            some_change : (c : Option Contract) → is_some c ≡ true → is_some (changes_by w x.at c) ≡ true
+            some_change None e = e
+            some_change (Some y) e = refl
 
-no_name : (n : FramedEnding) → ◌≡◌ {A = Option FramedEnding} None (Some n) → ⊥
-no_name n e = cc
+    module _ (rank : ℕ) (low : rank ≤ last_rank w) (within : IsWithin w b) (s : Shown) (none : s.head ≡ None) (shown : IsShown w (frame_of w rank) layout s)
+        (is : IsStart (frame_of w rank) b.unroll (shown_start w (frame_of w rank) layout s))
+        (made : All (IsMade (frame_of w rank) b.unroll (shown_start w (frame_of w rank) layout s)) s.calls) where
+      abbrev name : FrameName
+      name = name_of w rank
 
-module _ (p : Program) (invariants : List ℕ) (lawful : HasLawfulRows p) (memory : ReadsMemory p) (places : HasPlaces p) (lines : HasFewLines p)
-    (layout : Layout) (back : IsReadBackIn layout) (b : Budget) (small : IsReplayable b) (returns : ℕ → Bool) (tells : TellsReturns p returns) where
-  abbrev w : Whole
-  w = whole p invariants
+      named_rank : rank_named w name ≡ rank
+      named_rank = frames_are_named o file text w found rank low
 
-  abbrev IsReplayed : Report → Evidence → FramedEnding → Type 0
-  IsReplayed r e n =
-      length (frame_report_text layout b r e) ≤ text_limit →
-      frame_replay_answer w returns layout (frame_report_text layout b r e) ≡ plain_answer 0 (line (codes "replayed " ++ joined (ending_words n)))
+      named_frame : frame_of w rank ≡ frame_named w name
+      named_frame = ap (frame_of w) (sym named_rank) ∙ named_is w name
 
-  by_event : (event : FrameEvent) (at j : ℕ) (start : Written) (head : Option WrittenHead) (calls : List WrittenCall) →
-      IsRightReport w layout b (NamedReport (ByEvent event at j)) (ShownBy (record { start = start; head = head; calls = calls })) →
-      IsReplayed (NamedReport (ByEvent event at j)) (ShownBy (record { start = start; head = head; calls = calls })) (FramedFails event at j)
-  by_event event at j start None calls right room =
-      failing_replays p invariants layout back b.unroll places returns tells (record { start = start; head = None; calls = calls }) right.3 right.4 event at j refl
-      right.5 (fails_named p invariants b small right.0 lawful memory places lines _ right.4 event at j right.5.0 right.5.1) room
-  by_event event at j start (Some h) calls right room = absurd right.7
+      unproved_text : (n : CallEnding) → frame_name n ≡ name → IsCallEnding (call_checks w returns) n → IsCallText layout (call_checks w returns) (text_of n s)
+      unproved_text n of_name named = record {
+        named = named;
+        start = cleared_written layout ((call_checks w returns).frames (frame_name n)).known s.head s.start
+            (subst (λ (m : FrameName). IsWritten layout ((call_checks w returns).frames m).known s.start) (sym of_name)
+            (subst (λ (g : Frame). IsWritten layout (is_known_at g.program) s.start) named_frame shown.entry));
+        head = subst (λ (h : Option WrittenHead). IsHeadPart layout ((call_checks w returns).frames (frame_name n)) (cleared h s.start) h) (sym none) tt;
+        calls = λ k d l. block within rank low s is returns (get_or s.calls k d) (shown.calls k d l) (made k d l);
+        calls_rise = shown.calls_rise;
+      }
 
-  by_report : (r : Report) (e : Evidence) (n : FramedEnding) → IsRightReport w layout b r e → ending_of_report b r ≡ Some n → IsReplayed r e n
-  by_report (NamedReport (ByEvent event at j)) (ShownBy s) n right name =
-      subst (IsReplayed (NamedReport (ByEvent event at j)) (ShownBy s)) (let same : FramedFails event at j ≡ n = cc in same)
-      (by_event event at j s.start s.head s.calls right)
-  by_report (NamedReport (ByTurn at j)) (ShownBy s) n right name =
-      subst (IsReplayed (NamedReport (ByTurn at j)) (ShownBy s)) (let same : FramedTurns b.unroll at j ≡ n = cc in same)
-      (turning_replays p invariants layout back b.unroll places returns tells s right.3 right.4 at j right.5
-      (turns_named p invariants b small right.0 lawful memory places lines _ right.4 at j right.5.0 right.5.1))
-  by_report (NotInductiveReport event at j) (ShownBy s) n right name =
-      let named = fails_named p invariants b small right.0 lawful memory places lines _ right.6 event at j right.7.0 right.7.1 in
-      subst (IsReplayed (NotInductiveReport event at j) (ShownBy s)) (let same : NotInductiveBy event at j ≡ n = cc in same)
-      (stepping_replays p invariants layout back b.unroll places returns tells s right.5 right.6 event at j right.3 right.7 named)
-  by_report HoldsReport e n right name = absurd (no_name n name)
-  by_report PartialReport e n right name = absurd (no_name n name)
-  by_report VacuousReport e n right name = absurd (no_name n name)
-  by_report (UnprovedReport rank m) e n right name = absurd (no_name n name)
-  by_report PointsReport e n right name = absurd (no_name n name)
-  by_report SizeReport e n right name = absurd (no_name n name)
-  by_report ConflictsReport e n right name = absurd (no_name n name)
-  by_report (NamedReport m) (PassedBy x) n right name = absurd right
-  by_report (NamedReport m) (Frames list) n right name = absurd right
-  by_report (NamedReport m) (SpentOn rank kind proof) n right name = absurd right
-  by_report (NamedReport m) (Count c) n right name = absurd right
-  by_report (NotInductiveReport event at j) (PassedBy x) n right name = absurd right
-  by_report (NotInductiveReport event at j) (Frames list) n right name = absurd right
-  by_report (NotInductiveReport event at j) (SpentOn rank kind proof) n right name = absurd right
-  by_report (NotInductiveReport event at j) (Count c) n right name = absurd right
+    unproved_by : (rank : ℕ) (e : FrameEvent) (at j : ℕ) (s : Shown) → IsRightReport w layout b (UnprovedReport rank (ByEvent e at j)) (ShownBy s) →
+        IsReplayed (UnprovedReport rank (ByEvent e at j)) (ShownBy s) (UnprovedBy (name_of w rank) e at j)
+    unproved_by rank e at j s right =
+        let n = UnprovedBy (name_of w rank) e at j in
+        let ending = fails_named right.0 rank right.1 s right.5 e at j right.6.0 right.6.1 in
+        let is = unproved_text rank right.1 right.0 s right.3 right.4 right.5 right.7.each n refl
+        (name_told rank s right.5, ending.0, ending.1, ending.2) in
+        text_replays n s is tt
+        (subst (λ r. IsRightReport w layout b (UnprovedReport r (ByEvent e at j)) (ShownBy s)) (sym (frames_are_named o file text w found rank right.1)) right)
+        (frame_report_text w layout b (UnprovedReport rank (ByEvent e at j)) (ShownBy s)) (called_text layout (changes_of w) n s right.3)
 
--- texts are read back in the layout of a file
-back_by : (v : Bool) (e : Endian) (o : Options) → IsReadBackIn (if v then rv_layout o.compressed else arm_layout e o.profile)
-back_by true e o = printed_is_read_back.0 o.compressed
-back_by false e o = printed_is_read_back.1 e o.profile
+    unproved_turns : (rank at j : ℕ) (s : Shown) → IsRightReport w layout b (UnprovedReport rank (ByTurn at j)) (ShownBy s) →
+        IsReplayed (UnprovedReport rank (ByTurn at j)) (ShownBy s) (UnprovedTurns (name_of w rank) b.unroll at j)
+    unproved_turns rank at j s right =
+        let n = UnprovedTurns (name_of w rank) b.unroll at j in
+        let ending = turns_named right.0 rank right.1 s right.5 at j right.6.0 right.6.1 in
+        let is = unproved_text rank right.1 right.0 s right.3 right.4 right.5 right.7.each n refl
+        (name_told rank s right.5, ending.0, ending.1, ending.2) in
+        text_replays n s is refl
+        (subst (λ r. IsRightReport w layout b (UnprovedReport r (ByTurn at j)) (ShownBy s)) (sym (frames_are_named o file text w found rank right.1)) right)
+        (frame_report_text w layout b (UnprovedReport rank (ByTurn at j)) (ShownBy s)) (called_text layout (changes_of w) n s right.3)
 
--- what has no contracts is what its program and its invariants are
-as_whole : (w : Whole) → w.contracts ≡ [] → whole w.program w.invariants ≡ w
-as_whole w none = λ i. record { program = w.program; invariants = w.invariants; contracts = sym none i }
+    -- ---- the report
+
+    no_name : (n : CallEnding) → ◌≡◌ {A = Option CallEnding} None (Some n) → ⊥
+    no_name n e = cc
+
+    by_report : (r : Report) (e : Evidence) (n : CallEnding) → IsRightReport w layout b r e → ending_of_report w b r ≡ Some n → IsReplayed r e n
+    by_report (NamedReport (ByEvent event at j)) (ShownBy s) n right name =
+        subst (IsReplayed (NamedReport (ByEvent event at j)) (ShownBy s)) (let same : Plain (FramedFails event at j) ≡ n = cc in same)
+        (by_event event at j s right)
+    by_report (NamedReport (ByTurn at j)) (ShownBy s) n right name =
+        subst (IsReplayed (NamedReport (ByTurn at j)) (ShownBy s)) (let same : Plain (FramedTurns b.unroll at j) ≡ n = cc in same) (by_turn at j s right)
+    by_report (NotInductiveReport event at j) (ShownBy s) n right name =
+        subst (IsReplayed (NotInductiveReport event at j) (ShownBy s)) (let same : Plain (NotInductiveBy event at j) ≡ n = cc in same)
+        (by_step event at j s right)
+    by_report (UnprovedReport rank (ByEvent event at j)) (ShownBy s) n right name =
+        subst (IsReplayed (UnprovedReport rank (ByEvent event at j)) (ShownBy s)) (let same : UnprovedBy (name_of w rank) event at j ≡ n = cc in same)
+        (unproved_by rank event at j s right)
+    by_report (UnprovedReport rank (ByTurn at j)) (ShownBy s) n right name =
+        subst (IsReplayed (UnprovedReport rank (ByTurn at j)) (ShownBy s)) (let same : UnprovedTurns (name_of w rank) b.unroll at j ≡ n = cc in same)
+        (unproved_turns rank at j s right)
+    by_report HoldsReport e n right name = absurd (no_name n name)
+    by_report PartialReport e n right name = absurd (no_name n name)
+    by_report VacuousReport e n right name = absurd (no_name n name)
+    by_report PointsReport e n right name = absurd (no_name n name)
+    by_report SizeReport e n right name = absurd (no_name n name)
+    by_report ConflictsReport e n right name = absurd (no_name n name)
+    by_report (NamedReport m) (PassedBy x) n right name = absurd right
+    by_report (NamedReport m) (Frames list) n right name = absurd right
+    by_report (NamedReport m) (SpentOn rank kind proof) n right name = absurd right
+    by_report (NamedReport m) (Count c) n right name = absurd right
+    by_report (NotInductiveReport event at j) (PassedBy x) n right name = absurd right
+    by_report (NotInductiveReport event at j) (Frames list) n right name = absurd right
+    by_report (NotInductiveReport event at j) (SpentOn rank kind proof) n right name = absurd right
+    by_report (NotInductiveReport event at j) (Count c) n right name = absurd right
+    by_report (UnprovedReport rank m) (PassedBy x) n right name = absurd right
+    by_report (UnprovedReport rank m) (Frames list) n right name = absurd right
+    by_report (UnprovedReport rank m) (SpentOn k kind proof) n right name = absurd right
+    by_report (UnprovedReport rank m) (Count c) n right name = absurd right
 
 pub frame_report_replays : FrameReportReplays
 frame_report_replays o file text w bytes found b small r e n right name room returns tells =
-    let layout = layout_of o file in
-    let is = as_whole w (one_whole o file text w found).0 in
-    subst (λ v. frame_replay_answer v returns layout (frame_report_text layout b r e) ≡ plain_answer 0 (line (codes "replayed " ++ joined (ending_words n)))) is
-    (by_report w.program w.invariants (rows_of o file text w bytes found) (reads_of o file text w bytes found) (places_of o file text w bytes found)
-    (lines_of_whole o file text w found) layout (back_by (is_rv file) (file_endian file) o) b small returns tells r e n
-    (subst (λ v. IsRightReport v layout b r e) (sym is) right) name room)
+    by_report o file text w bytes found b small returns tells r e n right name room

@@ -9,7 +9,7 @@ use Rattle.answer_laws.proofs.Told.{answer_told}
 use Rattle.answer_laws.proofs.TwoCalls.{printed_is}
 use Rattle.answer_spec.specs.FrameAnswers.{IsFrameFound, AfterFrames, frames_refused, frames_found, IsVerifiedWhole, IsFrameReported}
 use Rattle.answer_spec.specs.Outcomes.{whole, cut, no_memory}
-use Rattle.answer_spec.proofs.Wholes.{by_invariants}
+use Rattle.answer_spec.proofs.Wholes.{by_frames}
 use Rattle.bilv_spec.specs.Answers as plain
 use Rattle.bilv_spec.specs.Files.{layout_of}
 use Rattle.bilv_spec.specs.Run.{Program}
@@ -65,7 +65,8 @@ module _ (o : Options) (file text : List ℕ) (b : Budget) (bytes : AreBytes fil
   of_frames w found (NamedReport (ByEvent event at step), e, right, is) = absurd (other_status 1 (omega arith) (ap (λ (x : Answer). x.status) is))
   of_frames w found (NamedReport (ByTurn at step), e, right, is) = absurd (other_status 3 (omega arith) (ap (λ (x : Answer). x.status) is))
   of_frames w found (NotInductiveReport event at step, e, right, is) = absurd (other_status 1 (omega arith) (ap (λ (x : Answer). x.status) is))
-  of_frames w found (UnprovedReport rank n, e, right, is) = absurd (other_status 3 (omega arith) (ap (λ (x : Answer). x.status) is))
+  of_frames w found (UnprovedReport rank (ByEvent event at step), e, right, is) = absurd (other_status 1 (omega arith) (ap (λ (x : Answer). x.status) is))
+  of_frames w found (UnprovedReport rank (ByTurn at step), e, right, is) = absurd (other_status 3 (omega arith) (ap (λ (x : Answer). x.status) is))
   of_frames w found (PointsReport, e, right, is) = absurd (other_status 3 (omega arith) (ap (λ (x : Answer). x.status) is))
   of_frames w found (SizeReport, e, right, is) = absurd (other_status 3 (omega arith) (ap (λ (x : Answer). x.status) is))
   of_frames w found (ConflictsReport, e, right, is) = absurd (other_status 3 (omega arith) (ap (λ (x : Answer). x.status) is))
@@ -73,7 +74,7 @@ module _ (o : Options) (file text : List ℕ) (b : Budget) (bytes : AreBytes fil
   of_notes : AfterFrames o file text (IsVerifiedWhole (layout_of o file) b) a → NeverFails o file text
   of_notes (frames_refused written refused is) = absurd (other_status 5 (omega arith) (status_by 5 written is))
   of_notes (frames_found w found next) =
-      by_invariants w.invariants _ _ (NeverFails o file text) (λ none is. absurd (of_program w.program (layout_of o file) is))
+      by_frames w.invariants w.contracts _ _ (NeverFails o file text) (λ none free is. absurd (of_program w.program (layout_of o file) is))
       (λ some is. of_frames w found is) next
 
   of_files : AfterWholeFiles o file text (IsVerifiedWhole (layout_of o file) b) a → NeverFails o file text

@@ -12,11 +12,14 @@ pub mod WorkHolds
 pub mod Upgraded
 pub mod Told
 pub mod LinkLines
+pub mod CallLess
 pub mod TwoCalls
 pub mod AcceptedStarts
 pub mod AcceptedRuns
 pub mod Compared
 pub mod FoundFrames
+pub mod OfMachine
+pub mod Contracted
 pub mod Inductive
 pub mod FramedEnds
 pub mod FrameReplays

@@ -1,5 +1,5 @@
 -- The lines that events name are lines of the notes, whose numbers are small.
-use Rattle.std.proofs.Common.{◌≡◌, ℕ, suc, ◌+◌, ◌<◌, ◌≤◌, ◌^◌, refl, ap, sym, subst, arith, Bool, true, false, List, [], ◌∷◌, Option, Some, None, length}
+use Rattle.std.proofs.Common.{◌≡◌, ℕ, suc, ◌+◌, ◌<◌, ◌≤◌, ◌^◌, refl, ap, sym, subst, arith, Bool, true, false, List, [], ◌∷◌, Option, Some, None, length, map}
 use Rattle.std.specs.Prelude.{◌==◌, ◌&&◌, not, if◌then◌else◌}
 use Rattle.word_spec.specs.Memory.{Endian}
 use Rattle.word_spec.specs.State.{State}
@@ -7,6 +7,8 @@ use Rattle.machine_spec.specs.Machine.{Row, How, On, Direct, DirectCall, Indirec
 use Rattle.bilv_spec.specs.Notes.{Notes, NoteLine, Assert, value, is_true}
 use Rattle.notes_spec.specs.NotesGrammar.{Says, Nothing, EntryIs, RequireIs, EnsureIs, AssertIs, TargetsAre, FixedIs, VersionIs, ConstIs, LoadedIs, InvariantIs, NeedIs, GiveIs, ModifiesAre, WritesAre, AreLines, after, is_second, line_limit, lines_of, ensures_of, asserts_of, IsNotesText}
 use Rattle.notes_spec.specs.Scopes.{Vocabulary, Scope, begin}
+use Rattle.notes_spec.specs.FrameNotes.{FrameNotes, IsFrameText, contract_of, each_once, gives_at, needs_at, places_of}
+use Rattle.frame_spec.specs.Frames.{Contract}
 use Rattle.call_spec.specs.Calls.{Options}
 use Rattle.notes_spec.specs.Programs.{IsProgram, vocabulary_of}
 use Rattle.machine_spec.specs.StateText.{IsEvent}
@@ -61,6 +63,59 @@ few_lines n (GiveIs a e ∷ says) h = few_lines (n + 1) says (omega arith)
 few_lines n (ModifiesAre a cs ∷ says) h = few_lines (n + 1) says (omega arith)
 few_lines n (WritesAre a e count ∷ says) h = few_lines (n + 1) says (omega arith)
 
+-- the lines of contracts
+few_if : (b : Bool) (l : NoteLine) (rest : List NoteLine) → l.line < 2 ^ 64 → AreFewLines rest → AreFewLines (if b then l ∷ rest else rest)
+few_if true l rest h few = (h, few)
+few_if false l rest h few = few
+
+few_needs : (at n : ℕ) (says : List Says) → n + length says ≤ 8192 → AreFewLines (needs_at at n says)
+few_needs at n [] h = tt
+few_needs at n (Nothing ∷ says) h = few_needs at (n + 1) says (omega arith)
+few_needs at n (EntryIs e ∷ says) h = few_needs at (n + 1) says (omega arith)
+few_needs at n (RequireIs e ∷ says) h = few_needs at (n + 1) says (omega arith)
+few_needs at n (EnsureIs e ∷ says) h = few_needs at (n + 1) says (omega arith)
+few_needs at n (AssertIs a e ∷ says) h = few_needs at (n + 1) says (omega arith)
+few_needs at n (TargetsAre a to ∷ says) h = few_needs at (n + 1) says (omega arith)
+few_needs at n (FixedIs low high ∷ says) h = few_needs at (n + 1) says (omega arith)
+few_needs at n (VersionIs b ∷ says) h = few_needs at (n + 1) says (omega arith)
+few_needs at n (ConstIs w v ∷ says) h = few_needs at (n + 1) says (omega arith)
+few_needs at n (LoadedIs ∷ says) h = few_needs at (n + 1) says (omega arith)
+few_needs at n (InvariantIs a e ∷ says) h = few_needs at (n + 1) says (omega arith)
+few_needs at n (NeedIs a e ∷ says) h = few_if (a == at) (record { line = n; says = e }) (needs_at at (n + 1) says) (omega arith) (few_needs at (n + 1) says (omega arith))
+few_needs at n (GiveIs a e ∷ says) h = few_needs at (n + 1) says (omega arith)
+few_needs at n (ModifiesAre a cs ∷ says) h = few_needs at (n + 1) says (omega arith)
+few_needs at n (WritesAre a e count ∷ says) h = few_needs at (n + 1) says (omega arith)
+
+few_gives : (at n : ℕ) (says : List Says) → n + length says ≤ 8192 → AreFewLines (gives_at at n says)
+few_gives at n [] h = tt
+few_gives at n (Nothing ∷ says) h = few_gives at (n + 1) says (omega arith)
+few_gives at n (EntryIs e ∷ says) h = few_gives at (n + 1) says (omega arith)
+few_gives at n (RequireIs e ∷ says) h = few_gives at (n + 1) says (omega arith)
+few_gives at n (EnsureIs e ∷ says) h = few_gives at (n + 1) says (omega arith)
+few_gives at n (AssertIs a e ∷ says) h = few_gives at (n + 1) says (omega arith)
+few_gives at n (TargetsAre a to ∷ says) h = few_gives at (n + 1) says (omega arith)
+few_gives at n (FixedIs low high ∷ says) h = few_gives at (n + 1) says (omega arith)
+few_gives at n (VersionIs b ∷ says) h = few_gives at (n + 1) says (omega arith)
+few_gives at n (ConstIs w v ∷ says) h = few_gives at (n + 1) says (omega arith)
+few_gives at n (LoadedIs ∷ says) h = few_gives at (n + 1) says (omega arith)
+few_gives at n (InvariantIs a e ∷ says) h = few_gives at (n + 1) says (omega arith)
+few_gives at n (NeedIs a e ∷ says) h = few_gives at (n + 1) says (omega arith)
+few_gives at n (GiveIs a e ∷ says) h = few_if (a == at) (record { line = n; says = e }) (gives_at at (n + 1) says) (omega arith) (few_gives at (n + 1) says (omega arith))
+few_gives at n (ModifiesAre a cs ∷ says) h = few_gives at (n + 1) says (omega arith)
+few_gives at n (WritesAre a e count ∷ says) h = few_gives at (n + 1) says (omega arith)
+
+pub record HasFewOwn (x : Contract) : Type 0 where
+  pub needs : AreFewLines x.needs
+  pub gives : AreFewLines x.gives
+
+abbrev pub HaveFewLines : List Contract → Type 0
+HaveFewLines [] = Unit {0}
+HaveFewLines (x ∷ rest) = HasFewOwn x × HaveFewLines rest
+
+few_contracts : (says : List Says) → 1 + length says ≤ 8192 → (places : List ℕ) → HaveFewLines (map (contract_of says) places)
+few_contracts says h [] = tt
+few_contracts says h (a ∷ rest) = (record { needs = few_needs a 1 says h; gives = few_gives a 1 says h }, few_contracts says h rest)
+
 as_many : (s : Scope) (texts : List (List ℕ)) (says : List Says) → AreLines s texts says → length says ≡ length texts
 as_many s [] [] lines = refl
 as_many s [] (x ∷ says) lines = absurd lines
@@ -79,6 +134,15 @@ text_lines v text notes is =
     let few : 1 + length is.says ≤ 8192 = omega arith in
     (subst AreFewAsserts is.notes_are.3 (few_asserts 1 is.says few), subst AreFewLines is.notes_are.2 (few_lines 1 is.says few))
 
+-- so of its contracts
+pub contract_lines : (v : Vocabulary) (text : List ℕ) (n : FrameNotes) → IsFrameText v text n → HaveFewLines n.contracts
+contract_lines v text n framed =
+    let is = framed.is_notes in
+    let count = as_many (begin v (is_second (lines_of text))) (lines_of text) is.says is.lines in
+    let short = few_texts (is_second (lines_of text)) (length (lines_of text)) is.short in
+    let few : 1 + length is.says ≤ 8192 = omega arith in
+    subst HaveFewLines framed.contracts_are (few_contracts is.says few (each_once (places_of is.says)))
+
 pub few_note_lines : (o : Options) (file text : List ℕ) (p : Program) → IsProgram o file text p → HasFewLines p
 few_note_lines o file text p is =
     let few = text_lines (vocabulary_of o file) text is.0 is.2 in subst HasFewLines (sym is.4) (record { asserts = few.0; ensures = few.1 })
@@ -91,7 +155,7 @@ other_line : (b : Bool) (o : Option ℕ) (n l : ℕ) → n < 2 ^ 64 → (o ≡ S
 other_line true o n l h f e = let same : n ≡ l = cc in omega arith
 other_line false o n l h f e = f e
 
-line_is_few : (e : Endian) (lines : List NoteLine) (now entry : State) (l : ℕ) → AreFewLines lines → false_line e lines now entry ≡ Some l → l < 2 ^ 64
+pub line_is_few : (e : Endian) (lines : List NoteLine) (now entry : State) (l : ℕ) → AreFewLines lines → false_line e lines now entry ≡ Some l → l < 2 ^ 64
 line_is_few e [] now entry l few is = absurd (cc)
 line_is_few e (x ∷ rest) now entry l few is =
     some_line (is_true (value e x.says now entry)) (false_line e rest now entry) x.line l few.0 (λ i. line_is_few e rest now entry l few.1 i) is

@@ -126,7 +126,7 @@ pub not_refused : (o : Options) (file text written : List ℕ) (p : Program) →
 not_refused o file text written p refused found =
     refused_or_found o file text written p (subst (λ d. AreNotesRefusedIn d o file text written) (programs_are_whole o file text p found).0 refused) found
 
--- so of what may have invariants
+-- so of what may have invariants or contracts
 pub not_refused_whole : (o : Options) (file text written : List ℕ) (w : Whole) → AreNotesRefusedIn (dialect_for text) o file text written →
     IsFrameFound o file text w → ⊥
 not_refused_whole o file text written w refused found =

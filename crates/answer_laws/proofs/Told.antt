@@ -6,7 +6,7 @@ use Rattle.bilv_spec.specs.Files.{layout_of}
 use Rattle.command_spec.specs.Commands.{Command, Verify, Lift, Graph, Script, Replay, Certify, Check, SelfRun, Upgrade, Model, Equal, Differ, PairNames}
 use Rattle.frame_spec.specs.FrameVerdict.{Whole}
 use Rattle.answer_spec.specs.FrameAnswers.{AfterFrames, frames_refused, frames_found, IsVerifiedWhole, IsReplayedWhole, IsCertifiedWhole, IsScriptWhole}
-use Rattle.answer_spec.specs.Outcomes.{AfterBoth, AfterWhole, AfterPair, IsLifted, IsGraphed, IsRightAnswer, upgrade_answer, IsOutcome, whole, cut, no_memory}
+use Rattle.answer_spec.specs.Outcomes.{AfterBoth, AfterWhole, AfterPair, IsLifted, IsGraphedWhole, IsRightAnswer, upgrade_answer, IsOutcome, whole, cut, no_memory}
 use Rattle.call_spec.specs.Outside.{Agrees, Rose}
 use Rattle.call_spec.specs.Calls.{Budget}
 use Rattle.model_spec.specs.Models.{AfterBudgets, points, size, within, IsAskedModelAnswer}
@@ -51,7 +51,7 @@ module _ (s : Surroundings) (content : List ℕ → List ℕ) where
       (λ next. notes_told o elf notes (Next (content elf)) Other a step (read_told notes notes_next a notes_is next))
       (read_told elf (λ file. AfterImage file (AfterRead s notes (λ text. AfterNotes o file text (Next file)))) a elf_is due)
 
-  -- the same where the notes may have invariants
+  -- the same where the notes may have invariants or contracts
   frames_told : (o : Options) (elf notes : List ℕ) (Next Other : Whole → Answer → Type 0) (a : Answer) → ((w : Whole) → Next w a → Other w a) →
       AfterFrames o (content elf) (content notes) Next a → AfterFrames o (content elf) (content notes) Other a
   frames_told o elf notes Next Other a step (frames_refused written x is) = frames_refused written x is
@@ -103,16 +103,16 @@ module _ (s : Surroundings) (content : List ℕ → List ℕ) where
       whole_told o elf notes (λ file. IsVerifiedWhole (layout_of o file) b) (IsVerifiedWhole (layout_of o (content elf)) b) a (λ w is. is) told.0 told.1 due
   answer_told (Lift o elf) a told due = read_told elf (λ file. AfterImage file (IsLifted o file)) a told due
   answer_told (Graph o elf notes) a told due =
-      whole_told o elf notes (λ file w. IsGraphed w.program) (λ w. IsGraphed w.program) a (λ w is. is) told.0 told.1 due
-  answer_told (Script o elf notes question b) a told due =
-      whole_told o elf notes (λ file. IsScriptWhole (layout_of o file) b question) (IsScriptWhole (layout_of o (content elf)) b question) a (λ w is. is)
+      whole_told o elf notes (λ file. IsGraphedWhole) IsGraphedWhole a (λ w is. is) told.0 told.1 due
+  answer_told (Script o elf notes question frame b) a told due =
+      whole_told o elf notes (λ file. IsScriptWhole (layout_of o file) b frame question) (IsScriptWhole (layout_of o (content elf)) b frame question) a (λ w is. is)
       told.0 told.1 due
   answer_told (Replay o elf notes report) a told due =
       whole_told o elf notes (λ file w. AfterRead s report (λ text. IsReplayedWhole (layout_of o file) text w))
       (IsReplayedWhole (layout_of o (content elf)) (content report)) a
       (λ w is. read_told report (λ text. IsReplayedWhole (layout_of o (content elf)) text w) a told.2 is) told.0 told.1 due
-  answer_told (Certify o elf notes question b) a told due =
-      whole_told o elf notes (λ file. IsCertifiedWhole b question) (IsCertifiedWhole b question) a (λ w is. is) told.0 told.1 due
+  answer_told (Certify o elf notes question frame b) a told due =
+      whole_told o elf notes (λ file. IsCertifiedWhole b frame question) (IsCertifiedWhole b frame question) a (λ w is. is) told.0 told.1 due
   answer_told (Check name) a told due = read_told name (λ text x. IsChecked text x.status x.text × (x.evidence ≡ NoEvidence)) a told due
   answer_told (SelfRun seed count) a told due = due
   answer_told (Upgrade o elf notes) a told due =

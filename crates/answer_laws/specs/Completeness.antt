@@ -54,15 +54,19 @@ ShowsRun (FromHead w head) = Unit {0}
 ShowsRun (WithCalls rank w calls) = Unit {0}
 ShowsRun other = ⊥
 
+-- the notes have invariants or contracts
+abbrev pub HasFrames : Whole → Type 0
+HasFrames w = w.invariants ≡ [] → w.contracts ≢ []
+
 -- The answer to two files and options, by what they are: the refusal of the first that is refused; or the right report that says what their program comes to;
--- or, with invariants, a right report over frames that spent no question's conflicts.
+-- or, with invariants or contracts, a right report over frames that spent no question's conflicts.
 pub data Answers (o : Options) (file text : List ℕ) (b : Budget) (a : Answer) : Type 0 where
   elf_is_refused : (written : List ℕ) → IsElfRefused file written → a ≡ plain_answer 4 written → Answers o file text b a
   notes_are_refused : (written : List ℕ) → IsAccepted file → AreNotesRefusedIn (dialect_for text) o file text written → a ≡ plain_answer 5 written →
       Answers o file text b a
   is_reported : (p : Program) (f : Finding) (r : Report) (e : Evidence) → IsFound o file text p → ComesTo p b f → Says r f →
       IsRightReport p (layout_of o file) b r e → a ≡ report_answer (layout_of o file) b r e → Answers o file text b a
-  frames_are_reported : (w : Whole) → IsFrameFound o file text w → w.invariants ≢ [] → IsFrameReported w (layout_of o file) b a →
+  frames_are_reported : (w : Whole) → IsFrameFound o file text w → HasFrames w → IsFrameReported w (layout_of o file) b a →
       ¬ IsSpentEvidence a.evidence → Answers o file text b a
 
 -- both files are told, and the counts of faults of their names did not rise
@@ -97,9 +101,9 @@ pub record AreSameButRun (a c : Answer) : Type 0 where
   pub text : (¬ ShowsRun a.evidence) → a.text ≡ c.text
   pub whole : a.evidence ≡ c.evidence → a ≡ c
 
--- each number of the file is a byte, where the notes have invariants
+-- each number of the file is a byte, where the notes have invariants or contracts
 abbrev pub HasBytes : Options → (file text : List ℕ) → Type 0
-HasBytes o file text = (w : Whole) → IsFrameFound o file text w → w.invariants ≢ [] → AreBytes file
+HasBytes o file text = (w : Whole) → IsFrameFound o file text w → HasFrames w → AreBytes file
 
 -- two files, options and a budget have one such answer, but for the run or the segment that it shows
 abbrev pub OneAnswer : Type 0

@@ -1,5 +1,5 @@
 -- What a call says of a function whose notes have invariants.
-use Rattle.std.specs.Prelude.{ℕ, ◌≡◌, ◌≢◌, List, [], Some, codes}
+use Rattle.std.specs.Prelude.{ℕ, ◌≡◌, ◌≢◌, List, [], Option, Some, codes}
 use Rattle.answer_laws.specs.Replayed.{AreBytes}
 use Rattle.answer_laws.specs.Told.{AreToldTo}
 use Rattle.answer_laws.specs.TwoCalls.{IsPrinted}
@@ -29,8 +29,8 @@ InvariantsMean =
     AreToldTo s content (Verify o elf notes b) → IsOutcome s (Some (Verify o elf notes b)) 0 e → IsPrinted s (line (codes "holds partially")) →
     NeverFails o (content elf) (content notes)
 
--- Where notes have no invariants, no call that certifies says that the question about head states is satisfiable.
+-- Where notes have no invariants, no call that certifies says that the question about head states is satisfiable, of whichever frame it is asked.
 abbrev pub StepIsFalse : Type 0
 StepIsFalse =
     (o : Options) (file text : List ℕ) (w : Whole) → IsFrameFound o file text w → w.invariants ≡ [] → (b : Budget) (a : Answer) →
-    IsCertifiedWhole b StepQuestion w a → a.status ≢ 1
+    (frame : Option (List ℕ)) → IsCertifiedWhole b frame StepQuestion w a → a.status ≢ 1

@@ -7,5 +7,6 @@ pub mod Told
 pub mod TwoCalls
 pub mod Compared
 pub mod Invariants
+pub mod Contracted
 pub mod FrameReplayed
 pub mod LayoutContracts

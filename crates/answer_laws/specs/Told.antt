@@ -5,7 +5,7 @@ use Rattle.call_spec.specs.Calls.{Answer, Evidence, NoEvidence, Options, Surroun
 use Rattle.bilv_spec.specs.Files.{layout_of}
 use Rattle.command_spec.specs.Commands.{Command, Verify, Lift, Graph, Script, Replay, Certify, Check, SelfRun, Upgrade, Model, Equal, Differ, PairNames}
 use Rattle.answer_spec.specs.FrameAnswers.{AfterFrames, IsVerifiedWhole, IsReplayedWhole, IsCertifiedWhole, IsScriptWhole}
-use Rattle.answer_spec.specs.Outcomes.{IsLifted, IsGraphed, IsSelfRun, upgrade_answer}
+use Rattle.answer_spec.specs.Outcomes.{IsLifted, IsGraphedWhole, IsSelfRun, upgrade_answer}
 use Rattle.model_spec.specs.Models.{AfterBudgets, IsAskedModelAnswer}
 use Rattle.pair_spec.specs.Differs.{differ_answer}
 use Rattle.pair_spec.specs.Links.{Link}
@@ -30,9 +30,9 @@ abbrev pub AreToldTo : Surroundings → (content : List ℕ → List ℕ) → Co
 AreToldTo s content (Verify o elf notes b) = IsTold s content elf × IsTold s content notes
 AreToldTo s content (Lift o elf) = IsTold s content elf
 AreToldTo s content (Graph o elf notes) = IsTold s content elf × IsTold s content notes
-AreToldTo s content (Script o elf notes kind b) = IsTold s content elf × IsTold s content notes
+AreToldTo s content (Script o elf notes kind frame b) = IsTold s content elf × IsTold s content notes
 AreToldTo s content (Replay o elf notes report) = IsTold s content elf × IsTold s content notes × IsTold s content report
-AreToldTo s content (Certify o elf notes kind b) = IsTold s content elf × IsTold s content notes
+AreToldTo s content (Certify o elf notes kind frame b) = IsTold s content elf × IsTold s content notes
 AreToldTo s content (Check certificate) = IsTold s content certificate
 AreToldTo s content (SelfRun seed count) = Unit {0}
 AreToldTo s content (Upgrade o elf notes) = IsTold s content elf × IsTold s content notes
@@ -44,7 +44,7 @@ AreToldTo s content (Differ o names report) = IsPairTold s content names × IsTo
 abbrev pub AfterFiles : Options → (file text : List ℕ) → (Program → Answer → Type 0) → Answer → Type 0
 AfterFiles o file text Next = AfterImage file (AfterNotes o file text Next)
 
--- so where the notes may have invariants
+-- so where the notes may have invariants or contracts
 abbrev pub AfterWholeFiles : Options → (file text : List ℕ) → (Whole → Answer → Type 0) → Answer → Type 0
 AfterWholeFiles o file text Next = AfterImage file (AfterFrames o file text Next)
 
@@ -57,12 +57,12 @@ AfterPairFiles o content names Next =
 abbrev pub IsAnswerTo : (content : List ℕ → List ℕ) → Command → Answer → Type 0
 IsAnswerTo content (Verify o elf notes b) = AfterWholeFiles o (content elf) (content notes) (IsVerifiedWhole (layout_of o (content elf)) b)
 IsAnswerTo content (Lift o elf) = AfterImage (content elf) (IsLifted o (content elf))
-IsAnswerTo content (Graph o elf notes) = AfterWholeFiles o (content elf) (content notes) (λ w. IsGraphed w.program)
-IsAnswerTo content (Script o elf notes question b) =
-    AfterWholeFiles o (content elf) (content notes) (IsScriptWhole (layout_of o (content elf)) b question)
+IsAnswerTo content (Graph o elf notes) = AfterWholeFiles o (content elf) (content notes) IsGraphedWhole
+IsAnswerTo content (Script o elf notes question frame b) =
+    AfterWholeFiles o (content elf) (content notes) (IsScriptWhole (layout_of o (content elf)) b frame question)
 IsAnswerTo content (Replay o elf notes report) =
     AfterWholeFiles o (content elf) (content notes) (IsReplayedWhole (layout_of o (content elf)) (content report))
-IsAnswerTo content (Certify o elf notes question b) = AfterWholeFiles o (content elf) (content notes) (IsCertifiedWhole b question)
+IsAnswerTo content (Certify o elf notes question frame b) = AfterWholeFiles o (content elf) (content notes) (IsCertifiedWhole b frame question)
 IsAnswerTo content (Check certificate) = λ a. IsChecked (content certificate) a.status a.text × (a.evidence ≡ NoEvidence)
 IsAnswerTo content (SelfRun seed count) = IsSelfRun seed count
 IsAnswerTo content (Upgrade o elf notes) = AfterWholeFiles o (content elf) (content notes) (λ w a. a ≡ upgrade_answer (content notes))

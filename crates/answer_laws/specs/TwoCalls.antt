@@ -1,5 +1,5 @@
 -- What two calls answer, of which the second reads what the first one printed.
-use Rattle.std.specs.Prelude.{ℕ, ◌≡◌, ◌≢◌, ◌≤◌, ◌^◌, ◌++◌, List, Some, codes, length}
+use Rattle.std.specs.Prelude.{ℕ, ◌≡◌, ◌≢◌, ◌≤◌, ◌^◌, ◌++◌, List, Option, Some, codes, length}
 use Rattle.answer_laws.specs.Completeness.{ShowsRun}
 use Rattle.answer_laws.specs.Replayed.{AreBytes, IsReplayable}
 use Rattle.call_spec.specs.Framed.{EntryQuestion, Question}
@@ -12,7 +12,7 @@ use Rattle.call_spec.specs.Outside.{Rose, Appends}
 use Rattle.clause_spec.specs.Checks.{text_limit}
 use Rattle.machine_spec.specs.Endings.{NamedEnding, named_line}
 use Rattle.word_spec.specs.Texts.{joined, line}
-use Rattle.frame_texts_spec.specs.FrameTexts.{FramedEnding, ending_words}
+use Rattle.frame_texts_spec.specs.CallTexts.{CallEnding, call_ending_words}
 use Rattle.answer_laws.specs.Told.{AreToldTo}
 
 -- a call of a command wrote this text whole, with status 0
@@ -31,8 +31,9 @@ IsPrinted s text = (before : List ℕ) × (s.text_before ≡ Some before) × (s.
 -- limit of bytes.
 abbrev pub CertificateIsAccepted : Type 0
 CertificateIsAccepted =
-    (s t : Surroundings) (o : Options) (content : List ℕ → List ℕ) (elf notes name : List ℕ) (kind : Question) (b : Budget) (status : ℕ) (e f : Evidence) →
-    IsOutcome s (Some (Certify o elf notes kind b)) 0 e → IsPrinted s (content name) →
+    (s t : Surroundings) (o : Options) (content : List ℕ → List ℕ) (elf notes name : List ℕ) (kind : Question) (frame : Option (List ℕ)) (b : Budget)
+    (status : ℕ) (e f : Evidence) →
+    IsOutcome s (Some (Certify o elf notes kind frame b)) 0 e → IsPrinted s (content name) →
     (proof : Proof) × (content name ≡ certificate_text proof.clauses proof.log)
     × (proof.clauses.variables ≤ 2 ^ 30 → length proof.clauses.clauses ≤ 2 ^ 30 → length (content name) ≤ text_limit →
     AreToldTo t content (Check name) → Sufficed t status → IsOutcome t (Some (Check name)) status f → Writes t status (line (codes "accepted")))
@@ -44,7 +45,7 @@ ReportIsReplayed =
     AreBytes (content elf) → IsReplayable b → AreToldTo s content (Verify o elf notes b) → IsOutcome s (Some (Verify o elf notes b)) first e → ShowsRun e →
     IsPrinted s (content report) → length (content report) ≤ text_limit → AreToldTo t content (Replay o elf notes report) → Sufficed t status →
     IsOutcome t (Some (Replay o elf notes report)) status f →
-    (n : FramedEnding) × Writes t status (line (codes "replayed " ++ joined (ending_words n)))
+    (n : CallEnding) × Writes t status (line (codes "replayed " ++ joined (call_ending_words n)))
 
 -- What a call that judges an answer wrote behind its first line, where it shows a run, is a report, which is replayed by a call over the same files, within the
 -- limit of bytes. The question is not that of entry states, whose start has no run.

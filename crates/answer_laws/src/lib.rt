@@ -2,6 +2,7 @@
 //! contract is the law.
 #![tactic(auto)]
 
+pub mod contracts;
 pub mod invariants;
 pub mod pairs;
 pub mod readings;

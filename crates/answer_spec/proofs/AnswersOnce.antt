@@ -28,9 +28,9 @@ pub absent_fails : (s : Surroundings) (c : Command) (name : List ℕ) (a : Answe
 absent_fails s (Verify o elf notes b) name a f h r = absent_read s elf name f h r
 absent_fails s (Lift o elf) name a f h r = absent_read s elf name f h r
 absent_fails s (Graph o elf notes) name a f h r = absent_read s elf name f h r
-absent_fails s (Script o elf notes kind b) name a f h r = absent_read s elf name f h r
+absent_fails s (Script o elf notes kind frame b) name a f h r = absent_read s elf name f h r
 absent_fails s (Replay o elf notes report) name a f h r = absent_read s elf name f h r
-absent_fails s (Certify o elf notes kind b) name a f h r = absent_read s elf name f h r
+absent_fails s (Certify o elf notes kind frame b) name a f h r = absent_read s elf name f h r
 absent_fails s (Check certificate) name a f h r = absent_read s certificate name f h r
 absent_fails s (SelfRun seed count) name a f h r = absurd (no_name name f)
 absent_fails s (Upgrade o elf notes) name a f h r = absent_read s elf name f h r
@@ -113,9 +113,9 @@ pub elf_refused_once : (s : Surroundings) (c : Command) (name file written : Lis
 elf_refused_once s (Verify o elf notes b) name file written a f h calm r x = elf_read s elf name file written f h calm r x
 elf_refused_once s (Lift o elf) name file written a f h calm r x = elf_read s elf name file written f h calm r x
 elf_refused_once s (Graph o elf notes) name file written a f h calm r x = elf_read s elf name file written f h calm r x
-elf_refused_once s (Script o elf notes kind b) name file written a f h calm r x = elf_read s elf name file written f h calm r x
+elf_refused_once s (Script o elf notes kind frame b) name file written a f h calm r x = elf_read s elf name file written f h calm r x
 elf_refused_once s (Replay o elf notes report) name file written a f h calm r x = elf_read s elf name file written f h calm r x
-elf_refused_once s (Certify o elf notes kind b) name file written a f h calm r x = elf_read s elf name file written f h calm r x
+elf_refused_once s (Certify o elf notes kind frame b) name file written a f h calm r x = elf_read s elf name file written f h calm r x
 elf_refused_once s (Check certificate) name file written a f h calm r x = absurd (no_name name f)
 elf_refused_once s (SelfRun seed count) name file written a f h calm r x = absurd (no_name name f)
 elf_refused_once s (Upgrade o elf notes) name file written a f h calm r x = elf_read s elf name file written f h calm r x

@@ -1,11 +1,14 @@
--- Notes that may have invariants: by which dialect they are read, and what is found of them.
-use Rattle.std.proofs.Common.{◌≡◌, ◌≢◌, ℕ, zero, suc, ◌+◌, ◌≤◌, ◌<◌, refl, ap, sym, ◌∙◌, subst, arith, suc-add, Bool, true, false, ◌||◌, List, [], ◌∷◌, inl, inr, map}
+-- Notes that may have invariants or contracts: by which dialect they are read, and what is found of them.
+use Rattle.std.proofs.Common.{◌≡◌, ◌≢◌, ℕ, zero, suc, ◌+◌, ◌≤◌, ◌<◌, refl, ap, sym, ◌∙◌, subst, arith, suc-add, Bool, true, false, ◌||◌, List, [], ◌∷◌, Option, Some, None, map, length}
 use Rattle.std.specs.List.Sorted.{IsStrictlyIncreasing}
-use Rattle.machine_spec.specs.Machine.{IsAtPlace}
-use Rattle.std.specs.Prelude.{◌↔◌, Option, Some, length, nat_lt, slice_index}
+use Rattle.machine_spec.specs.Machine.{Machine, IsAtPlace}
+use Rattle.std.specs.Prelude.{All, filter, if◌then◌else◌, ◌↔◌, nat_lt, slice_index, slice_get}
+use Rattle.std.proofs.lemmas.List.Elements.{All-nil, All-cons, All-head, All-tail}
+use Rattle.word_spec.specs.RowFiles.{from_to}
 use Rattle.std.proofs.lemmas.Bool.Decides.{nat_tests}
 use Rattle.clause_spec.specs.Checks.{text_limit}
 use Rattle.std.specs.List.{list_any}
+use Rattle.word_spec.specs.Texts.{split_lines}
 use Rattle.bilv_spec.specs.Files.{machine_of, program_of, IsFunctionAt}
 use Rattle.bilv_spec.specs.Notes.{Notes, Function, At, Named}
 use Rattle.bilv_spec.specs.Run.{Program}
@@ -14,20 +17,25 @@ use Rattle.bilv_spec.specs.Replays.{replay_answer}
 use Rattle.call_spec.specs.Calls.{Options, Question, program_question, Answer}
 use Rattle.bilv_spec.specs.Certified.{IsCertified}
 use Rattle.bilv_spec.specs.Scripts.{IsScriptAnswer}
-use Rattle.frame_texts_spec.specs.FrameReplays.{frame_replay_answer, sized_answer}
-use Rattle.frame_texts_spec.proofs.HeadlessReplays.{headless_replay, no_returns_asked}
+use Rattle.frame_texts_spec.specs.CallTexts.{Changes}
+use Rattle.frame_texts_spec.specs.CallTextLaws.{IsFramedFirst}
+use Rattle.frame_texts_spec.specs.CallReplays.{changes_by, changes_of, call_replay_answer, call_sized_answer}
+use Rattle.frame_texts_spec.proofs.BlocklessReplays.{blockless_replay}
+use Rattle.frame_texts_spec.proofs.HeadlessReplays.{headless_replay}
+use Rattle.frame_spec.specs.Frames.{Contract, contract_at}
 use Rattle.frame_spec.specs.FrameVerdict.{Whole}
 use Rattle.word_spec.specs.Tokens.{Token, tokens_of}
 use Rattle.notes_spec.specs.Scopes.{Vocabulary, Scope, Plain, Framed, begin, in_dialect}
 use Rattle.notes_spec.specs.NotesGrammar.{Says, Nothing, EntryIs, RequireIs, EnsureIs, AssertIs, TargetsAre, FixedIs, VersionIs, ConstIs, LoadedIs, InvariantIs, NeedIs, GiveIs, ModifiesAre, WritesAre, IsSaid, AreLines, after, entries, lines_of, is_second, is_invariant, is_of_contract, IsNotesText}
-use Rattle.notes_spec.specs.FrameNotes.{FrameNotes, IsFrameText, invariants_of, places_of, each_once, contract_of, whole_of}
+use Rattle.notes_spec.specs.FrameNotes.{FrameNotes, IsFrameText, invariants_of, places_of, each_once, is_register, is_flag, changes_at, contract_of, whole_of}
 use Rattle.notes_spec.specs.Programs.{vocabulary_of}
 use Rattle.notes_spec.specs.Verified.{AreNotesRefusedIn, AfterNotes, notes_refused, program_found, IsFound}
 use Rattle.notes_spec.proofs.Dialects.{spoken, plain_line}
-use Rattle.notes_spec.proofs.FrameReadings.{one_frame_reading, notes_are_framed, plain_has_none}
-use Rattle.answer_spec.specs.FrameAnswers.{invariant_words, contract_words, begins_line, has_line, dialect_by, dialect_for, IsFrameFound, AfterFrames, frames_refused, frames_found, ByInvariants, ByQuestion, IsFrameReplayed, too_long, judged, IsVerifiedWhole, IsReplayedWhole, IsCertifiedWhole, IsScriptWhole}
-use Rattle.answer_spec.specs.Outcomes.{IsGraphed, upgrade_answer}
-use Rattle.answer_spec.specs.FrameAnswerLaws.{IsPlainText, VerifiedAsBefore, ReplayedAsBefore, ReplayedByFrames, CertifiedAsBefore, ScriptedAsBefore, GraphedAsBefore, UpgradedAsBefore, ProgramsAreWhole, OneWhole, WholesAreFitted}
+use Rattle.notes_spec.proofs.FrameReadings.{one_frame_reading, notes_are_framed, plain_has_none, contracts_are_apart}
+use Rattle.answer_spec.specs.FrameAnswers.{invariant_words, contract_words, begins_line, has_line, dialect_by, dialect_for, IsFrameFound, AfterFrames, frames_refused, frames_found, ByInvariants, ByFrames, ByQuestion, IsFrameReplayed, too_long, judged, IsVerifiedWhole, IsReplayedWhole, IsCertifiedWhole, IsScriptWhole}
+use Rattle.answer_spec.specs.Outcomes.{ByContracts, IsGraphed, IsGraphedWhole, upgrade_answer}
+use Rattle.answer_spec.specs.FrameAnswerLaws.{IsPlainText, VerifiedAsBefore, ReplayedAsBefore, ReplayedWithoutCalls, ReplayedByFrames, CertifiedAsBefore, ScriptedAsBefore, GraphedAsBefore, UpgradedAsBefore, ProgramsAreWhole, OneWhole, IsFittedContract, WholesAreFitted}
+use Rattle.answer_spec.proofs.CallReplays.{no_returns_in_calls}
 
 -- ---- the words with which lines begin
 
@@ -50,6 +58,25 @@ begins_otherwise s ts (ModifiesAre a cs) other is = ap (begins_line invariant_wo
 begins_otherwise s ts (WritesAre a e n) other is = ap (begins_line invariant_words) is.3
 begins_otherwise s ts (InvariantIs a e) other is = absurd (let b : ⊥ = cc in b)
 
+-- so one that is not of a contract
+begins_apart : (s : Scope) (ts : List Token) (x : Says) → is_of_contract x ≡ false → IsSaid s ts x → begins_line contract_words ts ≡ false
+begins_apart s ts Nothing other is = ap (begins_line contract_words) is
+begins_apart s ts (EntryIs (At a)) other (t, is, n) = ap (begins_line contract_words) is
+begins_apart s ts (EntryIs (Named w)) other is = ap (begins_line contract_words) is
+begins_apart s ts (RequireIs x) other (rest, is, p) = ap (begins_line contract_words) is
+begins_apart s ts (EnsureIs x) other (rest, is, p) = ap (begins_line contract_words) is
+begins_apart s ts (AssertIs a x) other (t, rest, is, n, p) = ap (begins_line contract_words) is
+begins_apart s ts (TargetsAre a to) other (t, rest, is, n, ns, some) = ap (begins_line contract_words) is
+begins_apart s ts (FixedIs low high) other (t, u, is, n, m) = ap (begins_line contract_words) is
+begins_apart s ts (VersionIs b) other (rest, is, two) = ap (begins_line contract_words) is
+begins_apart s ts (ConstIs w v) other is = ap (begins_line contract_words) is.0
+begins_apart s ts LoadedIs other is = ap (begins_line contract_words) is.0
+begins_apart s ts (InvariantIs a e) other is = ap (begins_line contract_words) is.0.2
+begins_apart s ts (NeedIs a e) other is = absurd (let b : ⊥ = cc in b)
+begins_apart s ts (GiveIs a e) other is = absurd (let b : ⊥ = cc in b)
+begins_apart s ts (ModifiesAre a cs) other is = absurd (let b : ⊥ = cc in b)
+begins_apart s ts (WritesAre a e n) other is = absurd (let b : ⊥ = cc in b)
+
 either_of : (a b : Bool) → (a || b) ≡ false → (a ≡ false) × (b ≡ false)
 either_of false b h = (refl, h)
 either_of true b h = absurd (let x : ⊥ = cc in x)
@@ -68,6 +95,20 @@ plain_lines_begin s (text ∷ texts) (x ∷ says) h =
     (begins_otherwise (spoken Plain s) (tokens_of text) x (either_of (is_invariant x) (is_of_contract x) (plain_line s text x h.0)).0 h.0.said)
     ∙ plain_lines_begin (after s x) texts says h.1
 
+-- and with no word of a contract
+plain_lines_apart : (s : Scope) (texts : List (List ℕ)) (says : List Says) → AreLines (spoken Plain s) texts says →
+    list_any (λ l. begins_line contract_words (tokens_of l)) texts ≡ false
+plain_lines_apart s [] [] h = refl
+plain_lines_apart s [] (x ∷ says) h = absurd h
+plain_lines_apart s (text ∷ texts) [] h = absurd h
+plain_lines_apart s (text ∷ texts) (Nothing ∷ says) h =
+    ap (λ b. b || list_any (λ l. begins_line contract_words (tokens_of l)) texts) (begins_apart (spoken Plain s) (tokens_of text) Nothing refl h.0.said)
+    ∙ plain_lines_apart s texts says h.1
+plain_lines_apart s (text ∷ texts) (x ∷ says) h =
+    ap (λ b. b || list_any (λ l. begins_line contract_words (tokens_of l)) texts)
+    (begins_apart (spoken Plain s) (tokens_of text) x (either_of (is_invariant x) (is_of_contract x) (plain_line s text x h.0)).1 h.0.said)
+    ∙ plain_lines_apart (after s x) texts says h.1
+
 -- lines of which one begins so have an invariant
 marked : (s : Scope) (texts : List (List ℕ)) (says : List Says) (n : ℕ) → AreLines s texts says →
     list_any (λ l. begins_line invariant_words (tokens_of l)) texts ≡ true → invariants_of n says ≡ [] → ⊥
@@ -80,72 +121,50 @@ marked s (text ∷ texts) (x ∷ says) n h some none =
     (sym (ap (λ b. b || list_any (λ l. begins_line invariant_words (tokens_of l)) texts) (begins_otherwise s (tokens_of text) x refl h.0.said)) ∙ some)
     none
 
+-- and lines of which one begins with a word of a contract have one
+marked_apart : (s : Scope) (texts : List (List ℕ)) (says : List Says) → AreLines s texts says →
+    list_any (λ l. begins_line contract_words (tokens_of l)) texts ≡ true → places_of says ≡ [] → ⊥
+marked_apart s [] [] h some none = let x : ⊥ = cc in x
+marked_apart s [] (x ∷ says) h some none = h
+marked_apart s (text ∷ texts) [] h some none = h
+marked_apart s (text ∷ texts) (NeedIs a e ∷ says) h some none = let x : ⊥ = cc in x
+marked_apart s (text ∷ texts) (GiveIs a e ∷ says) h some none = let x : ⊥ = cc in x
+marked_apart s (text ∷ texts) (ModifiesAre a cs ∷ says) h some none = let x : ⊥ = cc in x
+marked_apart s (text ∷ texts) (WritesAre a e n ∷ says) h some none = let x : ⊥ = cc in x
+marked_apart s (text ∷ texts) (x ∷ says) h some none =
+    marked_apart (after s x) texts says h.1
+    (sym (ap (λ b. b || list_any (λ l. begins_line contract_words (tokens_of l)) texts) (begins_apart s (tokens_of text) x refl h.0.said)) ∙ some)
+    none
+
 -- so they are read in that dialect
-unmarked : (b c : Bool) → b ≡ false → dialect_by b c ≡ Plain
-unmarked false c h = refl
-unmarked true c h = absurd (let x : ⊥ = cc in x)
+unmarked : (b c : Bool) → b ≡ false → c ≡ false → dialect_by b c ≡ Plain
+unmarked b c none free = ap (λ d. dialect_by d c) none ∙ ap (dialect_by false) free
 
 plain_for : (o : Options) (file text : List ℕ) (notes : Notes) → IsNotesText (in_dialect Plain (vocabulary_of o file)) text notes → dialect_for text ≡ Plain
 plain_for o file text notes is =
-    unmarked (has_line invariant_words text) (has_line contract_words text)
-    (plain_lines_begin (begin (in_dialect Plain (vocabulary_of o file)) (is_second (lines_of text))) (lines_of text) is.says is.lines)
+    let s = begin (in_dialect Plain (vocabulary_of o file)) (is_second (lines_of text)) in
+    unmarked (has_line invariant_words text) (has_line contract_words text) (plain_lines_begin s (lines_of text) is.says is.lines)
+    (plain_lines_apart s (lines_of text) is.says is.lines)
 
--- a text that has no line of an invariant, or one of a contract, is
+-- a text that has no line of an invariant and none of a contract is
 plain_text : (text : List ℕ) → IsPlainText text → dialect_for text ≡ Plain
-plain_text text (inl none) = unmarked (has_line invariant_words text) (has_line contract_words text) none
-plain_text text (inr some) = by (has_line invariant_words text) (has_line contract_words text) some
-  where
-    by : (b c : Bool) → c ≡ true → dialect_by b c ≡ Plain
-    by true true h = refl
-    by false true h = refl
-    by b false h = absurd (let x : ⊥ = cc in x)
+plain_text text plain = unmarked (has_line invariant_words text) (has_line contract_words text) plain.0 plain.1
 
--- ---- without lines of contracts there are none
+-- ---- without contracts there are no lines of them
 
-begun_with : (ts : List Token) (us : List Token) → ts ≡ us → begins_line contract_words us ≡ true → begins_line contract_words ts ≡ false → ⊥
-begun_with ts us is some none = let b : true ≡ false = sym some ∙ sym (ap (begins_line contract_words) is) ∙ none in let x : ⊥ = cc in x
+no_place : (says : List Says) (places : List ℕ) → map (contract_of says) (each_once places) ≡ [] → places ≡ []
+no_place says [] none = refl
+no_place says (a ∷ rest) none = absurd (let x : ⊥ = cc in x)
 
-no_places : (s : Scope) (texts : List (List ℕ)) (says : List Says) → AreLines s texts says →
-    list_any (λ l. begins_line contract_words (tokens_of l)) texts ≡ false → places_of says ≡ []
-no_places s [] [] h none = refl
-no_places s [] (x ∷ says) h none = absurd h
-no_places s (text ∷ texts) [] h none = absurd h
-no_places s (text ∷ texts) (NeedIs a e ∷ says) h none =
-    let is = h.0.said.0 in absurd (begun_with (tokens_of text) _ is.2 refl (either_of (begins_line contract_words (tokens_of text)) _ none).0)
-no_places s (text ∷ texts) (GiveIs a e ∷ says) h none =
-    let is = h.0.said.0 in absurd (begun_with (tokens_of text) _ is.2 refl (either_of (begins_line contract_words (tokens_of text)) _ none).0)
-no_places s (text ∷ texts) (ModifiesAre a cs ∷ says) h none =
-    let is = h.0.said in absurd (begun_with (tokens_of text) _ is.2 refl (either_of (begins_line contract_words (tokens_of text)) _ none).0)
-no_places s (text ∷ texts) (WritesAre a e n ∷ says) h none =
-    let is = h.0.said in absurd (begun_with (tokens_of text) _ is.3 refl (either_of (begins_line contract_words (tokens_of text)) _ none).0)
-no_places s (text ∷ texts) (x ∷ says) h none =
-    no_places (after s x) texts says h.1 (either_of (begins_line contract_words (tokens_of text)) _ none).1
-
-no_contracts : (v : Vocabulary) (text : List ℕ) (n : FrameNotes) → IsFrameText v text n → has_line contract_words text ≡ false → n.contracts ≡ []
-no_contracts v text n is none =
-    sym is.contracts_are
-    ∙ ap (λ ps. map (contract_of is.is_notes.says) (each_once ps))
-    (no_places (begin v (is_second (lines_of text))) (lines_of text) is.is_notes.says is.is_notes.lines none)
-
--- in the dialect in which a text is read, it has no contracts
-none_by : (b c : Bool) (v : Vocabulary) (text : List ℕ) (n : FrameNotes) → has_line contract_words text ≡ c → IsFrameText (in_dialect (dialect_by b c) v) text n →
-    n.contracts ≡ []
-none_by true false v text n is framed = no_contracts (in_dialect Framed v) text n framed is
-none_by true true v text n is framed = (plain_has_none v text n framed).1
-none_by false true v text n is framed = (plain_has_none v text n framed).1
-none_by false false v text n is framed = (plain_has_none v text n framed).1
-
--- so what a text says that is read has none
-pub no_contracts_for : (v : Vocabulary) (text : List ℕ) (n : FrameNotes) → IsFrameText (in_dialect (dialect_for text) v) text n → n.contracts ≡ []
-no_contracts_for v text n framed = none_by (has_line invariant_words text) (has_line contract_words text) v text n refl framed
-
--- and where it has no invariants, lines of invariants are unknown
-plain_by : (b c : Bool) (v : Vocabulary) (text : List ℕ) (n : FrameNotes) → has_line invariant_words text ≡ b → IsFrameText (in_dialect (dialect_by b c) v) text n →
-    n.invariants ≡ [] → dialect_by b c ≡ Plain
-plain_by true false v text n is framed none =
+-- where a text has neither invariants nor contracts, lines of either are unknown
+plain_by : (b c : Bool) (v : Vocabulary) (text : List ℕ) (n : FrameNotes) → has_line invariant_words text ≡ b → has_line contract_words text ≡ c →
+    IsFrameText (in_dialect (dialect_by b c) v) text n → n.invariants ≡ [] → n.contracts ≡ [] → dialect_by b c ≡ Plain
+plain_by true c v text n is also framed none free =
     absurd (marked (begin (in_dialect Framed v) (is_second (lines_of text))) (lines_of text) framed.is_notes.says 1 framed.is_notes.lines is (framed.invariants_are ∙ none))
-plain_by true true v text n is framed none = refl
-plain_by false c v text n is framed none = refl
+plain_by false true v text n is also framed none free =
+    absurd (marked_apart (begin (in_dialect Framed v) (is_second (lines_of text))) (lines_of text) framed.is_notes.says framed.is_notes.lines also
+    (no_place framed.is_notes.says (places_of framed.is_notes.says) (framed.contracts_are ∙ free)))
+plain_by false false v text n is also framed none free = refl
 
 -- ---- what two files are
 
@@ -154,17 +173,13 @@ same_entry narrow file (At n) a b x y = sym x ∙ y
 same_entry narrow file (Named name) a b x y = y.1 a x.0
 
 pub one_whole : OneWhole
-one_whole o file text w found =
-    let is = found.2 in (
-      ap (λ (x : Whole). x.contracts) is.4
-          ∙ no_contracts_for (vocabulary_of o file) text is.0 is.2,
-      λ v also.
-          let it = also.2 in
-          let notes = one_frame_reading (in_dialect (dialect_for text) (vocabulary_of o file)) text it.0 is.0 it.2 is.2 in
-          let at = same_entry (machine_of o file).narrow file is.0.notes.entry it.1 is.1
-          (subst (λ (n : FrameNotes). IsFunctionAt (machine_of o file).narrow file n.notes.entry it.1) notes it.3) is.3 in
-          it.4 ∙ ap (λ n. whole_of (machine_of o file) file n it.1) notes ∙ ap (whole_of (machine_of o file) file is.0) at ∙ sym is.4,
-    )
+one_whole o file text w v found also =
+    let is = found.2 in
+    let it = also.2 in
+    let notes = one_frame_reading (in_dialect (dialect_for text) (vocabulary_of o file)) text it.0 is.0 it.2 is.2 in
+    let at = same_entry (machine_of o file).narrow file is.0.notes.entry it.1 is.1
+    (subst (λ (n : FrameNotes). IsFunctionAt (machine_of o file).narrow file n.notes.entry it.1) notes it.3) is.3 in
+    it.4 ∙ ap (λ n. whole_of (machine_of o file) file n it.1) notes ∙ ap (whole_of (machine_of o file) file is.0) at ∙ sym is.4
 
 -- numbers that rise from one on
 abbrev Rise : ℕ → List ℕ → Type 0
@@ -213,16 +228,67 @@ pub entry_of_text : (v : Vocabulary) (file text : List ℕ) (n : FrameNotes) (en
 entry_of_text v file text n entry framed at =
     let is = framed.is_notes in at_aligned file text (begin v (is_second (lines_of text))) is.says n.notes.entry entry is.lines is.notes_are.0 at
 
+-- numbers of a range, and those of them that pass a test
+below_from : (n count bound : ℕ) → n + count ≤ bound → All (λ r. r < bound) (from_to n count)
+below_from n zero bound h = All-nil (λ r. r < bound)
+below_from n (suc count) bound h =
+    All-cons (λ r. r < bound) n (from_to (n + 1) count) (omega (arith, h)) (below_from (n + 1) count bound (omega (arith, h)))
+
+filtered : (P : ℕ → Type 0) (test : ℕ → Bool) (xs : List ℕ) → All P xs → All P (filter test xs)
+filtered P test [] all = All-nil P
+filtered P test (x ∷ xs) all = by (test x) (filtered P test xs (All-tail P x xs all))
+  where
+    by : (t : Bool) → All P (filter test xs) → All P (if t then x ∷ filter test xs else filter test xs)
+    by true rest = All-cons P x (filter test xs) (All-head P x xs all) rest
+    by false rest = rest
+
+of_mapped : (f : ℕ → Contract) (xs : List ℕ) (i : ℕ) (x : Contract) → slice_get (map f xs) i ≡ Some x → (a : ℕ) × (f a ≡ x)
+of_mapped f [] i x is = absurd (let no : ⊥ = cc in no)
+of_mapped f (a ∷ xs) zero x is = (a, (let same : f a ≡ x = cc in same))
+of_mapped f (a ∷ xs) (suc i) x is = of_mapped f xs i x is
+
+-- what a contract may change
+registers_below : (says : List Says) (a : ℕ) → All (λ r. r < 32) (contract_of says a).registers
+registers_below says a =
+    filtered (λ r. r < 32) (λ r. list_any (is_register r) (changes_at a says)) (from_to 0 32) (below_from 0 32 32 (omega arith))
+
+flags_below : (says : List Says) (a : ℕ) → All (λ g. g < 4) (contract_of says a).flags
+flags_below says a = filtered (λ g. g < 4) (λ g. list_any (is_flag g) (changes_at a says)) (from_to 0 4) (below_from 0 4 4 (omega arith))
+
+-- what is asked of its contracts
+pub fitted_contract : (m : Machine) (file text : List ℕ) (v : Vocabulary) (n : FrameNotes) (entry : ℕ) → v.narrow ≡ m.narrow → IsFrameText v text n →
+    (rank : ℕ) (x : Contract) → slice_get n.contracts rank ≡ Some x → IsFittedContract (whole_of m file n entry) rank x
+fitted_contract m file text v n entry narrow framed rank x at =
+    let apart = contracts_are_apart v text n framed rank x at in
+    let says = framed.is_notes.says in
+    let from = of_mapped (contract_of says) (each_once (places_of says)) rank x (ap (λ (l : List Contract). slice_get l rank) framed.contracts_are ∙ at) in
+    record {
+      place = subst (λ b. IsAtPlace b x.at) narrow apart.2;
+      once = apart.3;
+      registers = subst (λ (c : Contract). All (λ r. r < 32) c.registers) from.1 (registers_below says from.0);
+      flags = subst (λ (c : Contract). All (λ g. g < 4) c.flags) from.1 (flags_below says from.0);
+      no_invariants = apart.0;
+      of_now = apart.1;
+    }
+
+abbrev IsFitted : Whole → Type 0
+IsFitted w =
+    IsAtPlace w.program.machine.narrow w.program.entry × IsStrictlyIncreasing w.invariants
+    × ((rank : ℕ) (x : Contract) → slice_get w.contracts rank ≡ Some x → IsFittedContract w rank x)
+
 pub wholes_are_fitted : WholesAreFitted
 wholes_are_fitted o file text w found =
     let is = found.2 in
     let words = in_dialect (dialect_for text) (vocabulary_of o file) in
-    subst (λ (v : Whole). IsAtPlace v.program.machine.narrow v.program.entry × IsStrictlyIncreasing v.invariants) (sym is.4)
-    (entry_of_text words file text is.0 is.1 is.2 is.3, invariants_rise words text is.0 is.2)
+    subst IsFitted (sym is.4) (
+      entry_of_text words file text is.0 is.1 is.2 is.3,
+      invariants_rise words text is.0 is.2,
+      fitted_contract (machine_of o file) file text words is.0 is.1 refl is.2,
+    )
 
 -- what is found where a text is read without invariants and contracts is a program
 plain_found : (o : Options) (file text : List ℕ) (w : Whole) → dialect_for text ≡ Plain → IsFrameFound o file text w →
-    IsFound o file text w.program × (w.invariants ≡ [])
+    IsFound o file text w.program × (w.invariants ≡ []) × (w.contracts ≡ [])
 plain_found o file text w plain found =
     let is = found.2 in
     let framed : IsFrameText (in_dialect Plain (vocabulary_of o file)) text is.0 =
@@ -230,18 +296,20 @@ plain_found o file text w plain found =
     let none = plain_has_none (vocabulary_of o file) text is.0 framed in (
       (found.0, found.1, (is.0.notes, is.1, framed.is_notes, is.3, ap (λ (x : Whole). x.program) is.4)),
       ap (λ (x : Whole). x.invariants) is.4 ∙ none.0,
+      ap (λ (x : Whole). x.contracts) is.4 ∙ none.1,
     )
 
-pub found_program : (o : Options) (file text : List ℕ) (w : Whole) → w.invariants ≡ [] → IsFrameFound o file text w → IsFound o file text w.program
-found_program o file text w none found =
+pub found_program : (o : Options) (file text : List ℕ) (w : Whole) → w.invariants ≡ [] → w.contracts ≡ [] → IsFrameFound o file text w →
+    IsFound o file text w.program
+found_program o file text w none free found =
     let is = found.2 in
-    let plain = plain_by (has_line invariant_words text) (has_line contract_words text) (vocabulary_of o file) text is.0 refl is.2
-    (sym (ap (λ (x : Whole). x.invariants) is.4) ∙ none) in
+    let plain = plain_by (has_line invariant_words text) (has_line contract_words text) (vocabulary_of o file) text is.0 refl refl is.2
+    (sym (ap (λ (x : Whole). x.invariants) is.4) ∙ none) (sym (ap (λ (x : Whole). x.contracts) is.4) ∙ free) in
     (plain_found o file text w plain found).0
 
 -- and a program is found so
 pub found_whole : (o : Options) (file text : List ℕ) (p : Program) → IsFound o file text p →
-    (w : Whole) × IsFrameFound o file text w × (w.program ≡ p) × (w.invariants ≡ [])
+    (w : Whole) × IsFrameFound o file text w × (w.program ≡ p) × (w.invariants ≡ []) × (w.contracts ≡ [])
 found_whole o file text p found =
     let is = found.2 in
     let framed = notes_are_framed (vocabulary_of o file) text is.0 is.2 in
@@ -250,11 +318,13 @@ found_whole o file text p found =
     let plain = plain_for o file text is.0 is.2 in
     let read : IsFrameText (in_dialect (dialect_for text) (vocabulary_of o file)) text n =
     subst (λ d. IsFrameText (in_dialect d (vocabulary_of o file)) text n) (sym plain) framed.2 in
-    let at = subst (λ (m : Notes). IsFunctionAt (machine_of o file).narrow file m.entry is.1) (sym framed.1) is.3 in (
+    let at = subst (λ (m : Notes). IsFunctionAt (machine_of o file).narrow file m.entry is.1) (sym framed.1) is.3 in
+    let none = plain_has_none (vocabulary_of o file) text n framed.2 in (
       w,
       (found.0, found.1, (n, is.1, read, at, refl)),
       ap (λ m. program_of (machine_of o file) file m is.1) framed.1 ∙ sym is.4,
-      (plain_has_none (vocabulary_of o file) text n framed.2).0,
+      none.0,
+      none.1,
     )
 
 pub programs_are_whole : ProgramsAreWhole
@@ -262,13 +332,22 @@ programs_are_whole o file text p found =
     let whole = found_whole o file text p found in (
       plain_for o file text found.2.0 found.2.2,
       λ w also.
-          let same : w ≡ whole.0 = (one_whole o file text whole.0 whole.1).1 w also in
-          (ap (λ (x : Whole). x.program) same ∙ whole.2, ap (λ (x : Whole). x.invariants) same ∙ whole.3),
+          let same : w ≡ whole.0 = one_whole o file text whole.0 w whole.1 also in (
+            ap (λ (x : Whole). x.program) same ∙ whole.2,
+            ap (λ (x : Whole). x.invariants) same ∙ whole.3,
+            ap (λ (x : Whole). x.contracts) same ∙ whole.4,
+          ),
     )
 
--- ---- notes without invariants
+-- ---- notes with neither invariants nor contracts
 
 -- by whether there are some
+pub by_frames : (invariants : List ℕ) (contracts : List Contract) (A B C : Type 0) → (invariants ≡ [] → contracts ≡ [] → A → C) →
+    ((invariants ≡ [] → contracts ≡ [] → ⊥) → B → C) → ByFrames invariants contracts A B → C
+by_frames [] [] A B C none some is = none refl refl is
+by_frames [] (x ∷ rest) A B C none some is = some (λ h i. (let y : ⊥ = cc in y)) is
+by_frames (n ∷ rest) contracts A B C none some is = some (λ h i. (let y : ⊥ = cc in y)) is
+
 pub by_invariants : (invariants : List ℕ) (A B C : Type 0) → (invariants ≡ [] → A → C) → (invariants ≢ [] → B → C) → ByInvariants invariants A B → C
 by_invariants [] A B C none some is = none refl is
 by_invariants (n ∷ rest) A B C none some is = some (λ h. (let x : ⊥ = cc in x)) is
@@ -277,6 +356,15 @@ by_invariants (n ∷ rest) A B C none some is = some (λ h. (let x : ⊥ = cc in
 pub without_invariants : (invariants : List ℕ) (A B : Type 0) → invariants ≡ [] → ByInvariants invariants A B ↔ A
 without_invariants [] A B none = (λ x. x, λ x. x)
 without_invariants (n ∷ rest) A B none = absurd (let x : ⊥ = cc in x)
+
+pub without_frames : (invariants : List ℕ) (contracts : List Contract) (A B : Type 0) → invariants ≡ [] → contracts ≡ [] → ByFrames invariants contracts A B ↔ A
+without_frames [] [] A B none free = (λ x. x, λ x. x)
+without_frames [] (x ∷ rest) A B none free = absurd (let y : ⊥ = cc in y)
+without_frames (n ∷ rest) contracts A B none free = absurd (let y : ⊥ = cc in y)
+
+without_contracts : (contracts : List Contract) (A B : Type 0) → contracts ≡ [] → ByContracts contracts A B ↔ A
+without_contracts [] A B free = (λ x. x, λ x. x)
+without_contracts (x ∷ rest) A B free = absurd (let y : ⊥ = cc in y)
 
 module _ (o : Options) (file text : List ℕ) (a : Answer) (plain : dialect_for text ≡ Plain) where
   refused_before : (written : List ℕ) → AreNotesRefusedIn (dialect_for text) o file text written → AreNotesRefusedIn Plain o file text written
@@ -291,14 +379,13 @@ module _ (o : Options) (file text : List ℕ) (a : Answer) (plain : dialect_for 
     is_before (frames_refused written h is) = notes_refused written (refused_before written h) is
     is_before (frames_found w found next) =
         let p = plain_found o file text w plain found in
-        program_found w.program p.0 ((same w p.1 (one_whole o file text w found).0).0 next)
+        program_found w.program p.0 ((same w p.1 p.2).0 next)
 
     is_now : AfterNotes o file text Of a → AfterFrames o file text Over a
     is_now (notes_refused written h is) = frames_refused written (refused_now written h) is
     is_now (program_found p found next) =
         let w = found_whole o file text p found in
-        frames_found w.0 w.1
-        ((same w.0 w.3 (one_whole o file text w.0 w.1).0).1 (subst (λ q. Of q a) (sym w.2) next))
+        frames_found w.0 w.1 ((same w.0 w.3 w.4).1 (subst (λ q. Of q a) (sym w.2) next))
 
     as_before : AfterFrames o file text Over a ↔ AfterNotes o file text Of a
     as_before = (is_before, is_now)
@@ -307,24 +394,32 @@ module _ (o : Options) (file text : List ℕ) (a : Answer) (plain : dialect_for 
 same_due : (a due other : Answer) → due ≡ other → (a ≡ due) ↔ (a ≡ other)
 same_due a due other e = (λ h. h ∙ e, λ h. h ∙ sym e)
 
--- what is due to a question of a program where there are no invariants
-pub question_of : (invariants : List ℕ) (o : Option Question) (kind : Question) (Due : Question → Type 0) (Other : Type 0) → invariants ≡ [] → o ≡ Some kind →
-    ByQuestion invariants o Due Other ↔ Due kind
-question_of invariants o kind Due Other none is =
-    subst (λ (i : List ℕ). ByQuestion i o Due Other ↔ Due kind) (sym none)
-    (subst (λ (q : Option Question). ByQuestion [] q Due Other ↔ Due kind) (sym is) (λ x. x, λ x. x))
+-- what is due to a question of a program where there are neither
+pub question_of : (invariants : List ℕ) (contracts : List Contract) (o : Option Question) (kind : Question) (Due : Question → Type 0) (Other : Type 0) →
+    invariants ≡ [] → contracts ≡ [] → o ≡ Some kind → ByQuestion invariants contracts o Due Other ↔ Due kind
+question_of invariants contracts o kind Due Other none free is =
+    subst (λ (i : List ℕ). ByQuestion i contracts o Due Other ↔ Due kind) (sym none)
+    (subst (λ (c : List Contract). ByQuestion [] c o Due Other ↔ Due kind) (sym free)
+    (subst (λ (q : Option Question). ByQuestion [] [] q Due Other ↔ Due kind) (sym is) (λ x. x, λ x. x)))
 
 pub verified_as_before : VerifiedAsBefore
 verified_as_before o file text layout b a plain =
     as_before o file text a (plain_text text plain) (IsVerifiedWhole layout b) (λ p. IsReported p layout b)
-    (λ w none free. without_invariants w.invariants _ _ none)
+    (λ w none free. without_frames w.invariants w.contracts _ _ none free)
+
+-- a report without blocks, where there are no contracts
+pub replayed_without_calls : ReplayedWithoutCalls
+replayed_without_calls w layout report free none returns =
+    let same : changes_of w ≡ (λ a. None) = ap (λ (cs : List Contract). λ a. changes_by w a (contract_at cs a)) free in
+    blockless_replay w returns layout report free (subst (λ (c : ℕ → Option Changes). IsFramedFirst c (split_lines report)) (sym same) none.0) none.1
 
 pub replayed_as_before : ReplayedAsBefore
-replayed_as_before o file text report layout a plain first no_head =
+replayed_as_before o file text report layout a plain first no_head no_call =
     as_before o file text a (plain_text text plain) (IsReplayedWhole layout report) (λ p x. x ≡ replay_answer p layout report)
     (λ w none free.
-    let by = without_invariants w.invariants (a ≡ frame_replay_answer w (λ x. false) layout report) (IsFrameReplayed w layout report a) none in
-    let same = same_due a _ _ (headless_replay w none free (λ x. false) layout report first no_head) in
+    let by = without_invariants w.invariants (a ≡ call_replay_answer w (λ x. false) layout report) (IsFrameReplayed w layout report a) none in
+    let same = same_due a _ _
+    (replayed_without_calls w layout report free no_call (λ x. false) ∙ headless_replay w none free (λ x. false) layout report first no_head) in
     (λ h. same.0 (by.0 h), λ h. by.1 (same.1 h)))
 
 -- what is due by whether there are invariants
@@ -334,27 +429,28 @@ due_by (n ∷ rest) A B none some = some (λ h. (let x : ⊥ = cc in x))
 
 pub replayed_by_frames : ReplayedByFrames
 replayed_by_frames w layout report a h =
-    due_by w.invariants (a ≡ frame_replay_answer w (λ x. false) layout report) (IsFrameReplayed w layout report a) (λ none. by_case none h) (λ some. h)
+    due_by w.invariants (a ≡ call_replay_answer w (λ x. false) layout report) (IsFrameReplayed w layout report a) (λ none. by_case none h) (λ some. h)
   where
-    by_case : w.invariants ≡ [] → IsFrameReplayed w layout report a → a ≡ frame_replay_answer w (λ x. false) layout report
+    by_case : w.invariants ≡ [] → IsFrameReplayed w layout report a → a ≡ call_replay_answer w (λ x. false) layout report
     by_case none (too_long long is) =
         let large : nat_lt text_limit (length report) ≡ true = grind (arith, nat_tests, long) in
-        is ∙ sym (ap (λ b. sized_answer b w (λ x. false) layout report) large)
-    by_case none (judged returns tells is) = is ∙ no_returns_asked w none returns (λ x. false) layout report
+        is ∙ sym (ap (λ b. call_sized_answer b w (λ x. false) layout report) large)
+    by_case none (judged returns tells is) = is ∙ no_returns_in_calls w none returns (λ x. false) layout report
 
 pub certified_as_before : CertifiedAsBefore
 certified_as_before o file text b question kind a plain is =
-    as_before o file text a (plain_text text plain) (IsCertifiedWhole b question) (λ p x. IsCertified p b kind x.status x.text x.evidence)
-    (λ w none free. question_of w.invariants (program_question question) kind (λ q. IsCertified w.program b q a.status a.text a.evidence) _ none is)
+    as_before o file text a (plain_text text plain) (IsCertifiedWhole b None question) (λ p x. IsCertified p b kind x.status x.text x.evidence)
+    (λ w none free. question_of w.invariants w.contracts (program_question question) kind (λ q. IsCertified w.program b q a.status a.text a.evidence) _ none free
+    is)
 
 pub scripted_as_before : ScriptedAsBefore
 scripted_as_before o file text layout b question kind a plain is =
-    as_before o file text a (plain_text text plain) (IsScriptWhole layout b question) (λ p. IsScriptAnswer p layout b kind)
-    (λ w none free. question_of w.invariants (program_question question) kind (λ q. IsScriptAnswer w.program layout b q a) _ none is)
+    as_before o file text a (plain_text text plain) (IsScriptWhole layout b None question) (λ p. IsScriptAnswer p layout b kind)
+    (λ w none free. question_of w.invariants w.contracts (program_question question) kind (λ q. IsScriptAnswer w.program layout b q a) _ none free is)
 
 pub graphed_as_before : GraphedAsBefore
 graphed_as_before o file text a plain =
-    as_before o file text a (plain_text text plain) (λ w. IsGraphed w.program) IsGraphed (λ w none free. (λ h. h, λ h. h))
+    as_before o file text a (plain_text text plain) IsGraphedWhole IsGraphed (λ w none free. without_contracts w.contracts _ _ free)
 
 pub upgraded_as_before : UpgradedAsBefore
 upgraded_as_before o file text a plain =

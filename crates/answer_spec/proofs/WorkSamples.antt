@@ -32,7 +32,7 @@ unfolding digits
 work_says = refl
 
 -- its rows compute that number: the run from 1 and 3 exits, and the note that names it is true
-abbrev work_program : Program
+abbrev pub work_program : Program
 work_program = record {
   machine = rv32 false;
   word = in_memory (rv32 false);

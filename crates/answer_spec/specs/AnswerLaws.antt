@@ -44,9 +44,9 @@ abbrev pub first_file : Command → Option (List ℕ)
 first_file (Verify o elf notes b) = Some elf
 first_file (Lift o elf) = Some elf
 first_file (Graph o elf notes) = Some elf
-first_file (Script o elf notes kind b) = Some elf
+first_file (Script o elf notes kind frame b) = Some elf
 first_file (Replay o elf notes report) = Some elf
-first_file (Certify o elf notes kind b) = Some elf
+first_file (Certify o elf notes kind frame b) = Some elf
 first_file (Check certificate) = Some certificate
 first_file (SelfRun seed count) = None
 first_file (Upgrade o elf notes) = Some elf

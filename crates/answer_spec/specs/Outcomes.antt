@@ -1,10 +1,11 @@
 -- What the program answers to a command: its status, what it writes, and its evidence.
-use Rattle.std.specs.Prelude.{ℕ, ◌≡◌, ◌<◌, ◌++◌, List, [], Option, Some, None, codes, length, take, Contains, nat_le, if◌then◌else◌}
+use Rattle.std.specs.Prelude.{ℕ, ◌≡◌, ◌<◌, ◌++◌, List, [], ◌∷◌, Option, Some, None, codes, length, take, Contains, nat_le, if◌then◌else◌}
 use Rattle.call_spec.specs.Outside.{Rose, Appends}
 use Rattle.bilv_spec.specs.Run.{Program}
 use Rattle.call_spec.specs.Calls.{Options, default_options, program_question, Evidence, NoEvidence, Answer, plain_answer, default_budget, Surroundings, AfterRead}
 use Rattle.bilv_spec.specs.Files.{layout_of}
 use Rattle.notes_spec.specs.Upgrades.{upgraded}
+use Rattle.frame_spec.specs.Frames.{Contract}
 use Rattle.frame_spec.specs.FrameVerdict.{Whole}
 use Rattle.notes_spec.specs.Verified.{AfterImage, AfterNotes, IsVerified, notes_limit}
 use Rattle.command_spec.specs.Commands.{usage_text, PairNames, Command, Verify, Lift, Graph, Script, Replay, Certify, Check, SelfRun, Upgrade, Model, Equal, Differ}
@@ -17,6 +18,7 @@ use Rattle.pair_spec.specs.Differs.{differ_answer}
 use Rattle.clause_spec.specs.Checks.{IsChecked}
 use Rattle.command_spec.specs.Work.{work_file, work_notes, work_text}
 use Rattle.word_spec.specs.Texts.{line, line_feed}
+use Rattle.answer_spec.specs.FrameGraphs.{IsFrameGraphText}
 use Rattle.answer_spec.specs.FrameAnswers.{AfterFrames, IsVerifiedWhole, IsReplayedWhole, IsCertifiedWhole, IsScriptWhole}
 
 -- the answer behind the reading of an ELF file, and its refusals
@@ -27,7 +29,7 @@ AfterElf s elf Next = AfterRead s elf (λ file. AfterImage file (Next file))
 abbrev pub AfterBoth : Surroundings → Options → (elf notes : List ℕ) → (Next : List ℕ → Program → Answer → Type 0) → Answer → Type 0
 AfterBoth s o elf notes Next = AfterElf s elf (λ file. AfterRead s notes (λ text. AfterNotes o file text (Next file)))
 
--- so where the notes may have invariants
+-- so where the notes may have invariants or contracts
 abbrev pub AfterWhole : Surroundings → Options → (elf notes : List ℕ) → (Next : List ℕ → Whole → Answer → Type 0) → Answer → Type 0
 AfterWhole s o elf notes Next = AfterElf s elf (λ file. AfterRead s notes (λ text. AfterFrames o file text (Next file)))
 
@@ -46,6 +48,17 @@ IsLifted o file a = (written : List ℕ) × IsLiftText o file written × (a ≡ 
 -- the answer that prints a program's graph
 abbrev pub IsGraphed : Program → Answer → Type 0
 IsGraphed p a = (written : List ℕ) × IsGraphText p written × (a ≡ plain_answer 0 written)
+
+-- so of notes with contracts, whose graph has their addresses too
+abbrev pub IsFrameGraphed : Whole → Answer → Type 0
+IsFrameGraphed w a = (written : List ℕ) × IsFrameGraphText w written × (a ≡ plain_answer 0 written)
+
+abbrev pub ByContracts : (contracts : List Contract) → (plain framed : Type 0) → Type 0
+ByContracts [] plain framed = plain
+ByContracts (x ∷ rest) plain framed = framed
+
+abbrev pub IsGraphedWhole : Whole → Answer → Type 0
+IsGraphedWhole w a = ByContracts w.contracts (IsGraphed w.program a) (IsFrameGraphed w a)
 
 -- a text's first line
 abbrev pub IsFirstLine : List ℕ → List ℕ → Type 0
@@ -66,11 +79,11 @@ upgrade_answer text =
 abbrev pub IsRightAnswer : Surroundings → Command → Answer → Type 0
 IsRightAnswer s (Verify o elf notes b) = AfterWhole s o elf notes (λ file. IsVerifiedWhole (layout_of o file) b)
 IsRightAnswer s (Lift o elf) = AfterElf s elf (IsLifted o)
-IsRightAnswer s (Graph o elf notes) = AfterWhole s o elf notes (λ file w. IsGraphed w.program)
-IsRightAnswer s (Script o elf notes question b) = AfterWhole s o elf notes (λ file. IsScriptWhole (layout_of o file) b question)
+IsRightAnswer s (Graph o elf notes) = AfterWhole s o elf notes (λ file. IsGraphedWhole)
+IsRightAnswer s (Script o elf notes question frame b) = AfterWhole s o elf notes (λ file. IsScriptWhole (layout_of o file) b frame question)
 IsRightAnswer s (Replay o elf notes report) =
     AfterWhole s o elf notes (λ file w. AfterRead s report (λ text. IsReplayedWhole (layout_of o file) text w))
-IsRightAnswer s (Certify o elf notes question b) = AfterWhole s o elf notes (λ file. IsCertifiedWhole b question)
+IsRightAnswer s (Certify o elf notes question frame b) = AfterWhole s o elf notes (λ file. IsCertifiedWhole b frame question)
 IsRightAnswer s (Check certificate) = AfterRead s certificate (λ text a. IsChecked text a.status a.text × (a.evidence ≡ NoEvidence))
 IsRightAnswer s (SelfRun seed count) = IsSelfRun seed count
 IsRightAnswer s (Upgrade o elf notes) = AfterElf s elf (λ file. AfterRead s notes (λ text. AfterFrames o file text (λ w a. a ≡ upgrade_answer text)))

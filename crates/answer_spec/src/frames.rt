@@ -1,14 +1,19 @@
-//! Laws of answers to notes that may have invariants.
-ghost use Rattle.answer_spec.specs.FrameAnswerLaws.{CertifiedAsBefore, GraphedAsBefore, OneWhole, ProgramsAreWhole, ReplayedAsBefore, ReplayedByFrames, ScriptedAsBefore, UpgradedAsBefore, VerifiedAsBefore, WholesAreFitted};
+//! Laws of answers to notes that may have invariants or contracts.
+ghost use Rattle.answer_spec.specs.FrameAnswerLaws.{CertifiedAsBefore, FrameIsNamed, FramesAreNamed, GraphedAsBefore, NoFrameNamed, OneWhole, ProgramsAreWhole, ReplayedAsBefore, ReplayedByFrames, ReplayedWithoutCalls, ScriptedAsBefore, UpgradedAsBefore, VerifiedAsBefore, WholesAreFitted};
 
-/// A text without invariants, or with a contract, is verified as where lines of both are unknown.
+/// A text with neither invariants nor contracts is verified as where lines of both are unknown.
 pub fn verified_as_before()
     ensures { VerifiedAsBefore }
 {}
 
-/// So are reports replayed that have no head part.
+/// So are reports replayed that have neither a head part nor blocks.
 pub fn replayed_as_before()
     ensures { ReplayedAsBefore }
+{}
+
+/// Without contracts a report without blocks is replayed over frames as where blocks are unknown.
+pub fn replayed_without_calls()
+    ensures { ReplayedWithoutCalls }
 {}
 
 /// What is answered to a report over frames is the answer also where there are no invariants.
@@ -26,6 +31,16 @@ pub fn scripted_as_before()
     ensures { ScriptedAsBefore }
 {}
 
+/// Where there are no contracts, no word names a frame.
+pub fn no_frame_named()
+    ensures { NoFrameNamed }
+{}
+
+/// A word names the frame of the contract whose address it is.
+pub fn frame_is_named()
+    ensures { FrameIsNamed }
+{}
+
 /// So is the graph printed.
 pub fn graphed_as_before()
     ensures { GraphedAsBefore }
@@ -41,12 +56,17 @@ pub fn programs_are_whole()
     ensures { ProgramsAreWhole }
 {}
 
-/// Two files are one whole at most, which has no contracts.
+/// Two files are one whole at most.
 pub fn one_whole()
     ensures { OneWhole }
 {}
 
-/// A row can stand at the address of their function, and the numbers of their invariants rise.
+/// A row can stand at the address of their function, and at that of each of their contracts, of which no two have one address.
 pub fn wholes_are_fitted()
     ensures { WholesAreFitted }
+{}
+
+/// The frame of a rank has the name by which reports call it.
+pub fn frames_are_named()
+    ensures { FramesAreNamed }
 {}

@@ -1,5 +1,5 @@
 -- The commands.
-use Rattle.std.specs.Prelude.{ℕ, ◌<◌, ◌≤◌, ◌^◌, List, codes}
+use Rattle.std.specs.Prelude.{ℕ, ◌<◌, ◌≤◌, ◌^◌, List, Option, codes}
 use Rattle.call_spec.specs.Framed.{Question}
 use Rattle.call_spec.specs.Calls.{Options, Budget, IsBudget}
 use Rattle.word_spec.specs.Texts.{line}
@@ -12,15 +12,15 @@ pub record PairNames : Type 0 where
   pub other_notes : List ℕ
   pub links : List ℕ
 
--- A command, its files by their names: options of the machine stand first. Its question is one about the frame of notes, which is that of a program where they
--- have no invariants.
+-- A command, its files by their names: options of the machine stand first. Its question is one about the frame that a word names, that of the entry where none
+-- does; it is that of a program where notes have neither invariants nor contracts.
 pub data Command : Type 0 where
   Verify : Options → (elf notes : List ℕ) → Budget → Command
   Lift : Options → (elf : List ℕ) → Command
   Graph : Options → (elf notes : List ℕ) → Command
-  Script : Options → (elf notes : List ℕ) → Question → Budget → Command
+  Script : Options → (elf notes : List ℕ) → Question → (frame : Option (List ℕ)) → Budget → Command
   Replay : Options → (elf notes state : List ℕ) → Command
-  Certify : Options → (elf notes : List ℕ) → Question → Budget → Command
+  Certify : Options → (elf notes : List ℕ) → Question → (frame : Option (List ℕ)) → Budget → Command
   Check : (certificate : List ℕ) → Command
   SelfRun : (seed count : ℕ) → Command
   Upgrade : Options → (elf notes : List ℕ) → Command
@@ -31,8 +31,8 @@ pub data Command : Type 0 where
 -- the numbers that a command may have
 abbrev pub IsLawfulCommand : Command → Type 0
 IsLawfulCommand (Verify o elf notes b) = IsBudget b
-IsLawfulCommand (Script o elf notes kind b) = IsBudget b
-IsLawfulCommand (Certify o elf notes kind b) = IsBudget b
+IsLawfulCommand (Script o elf notes kind frame b) = IsBudget b
+IsLawfulCommand (Certify o elf notes kind frame b) = IsBudget b
 IsLawfulCommand (Model o elf notes answer kind b) = IsBudget b
 IsLawfulCommand (Equal o names b) = IsBudget b
 IsLawfulCommand (SelfRun seed count) = (seed < 2 ^ 31) × (1 ≤ count) × (count ≤ 16000)

@@ -15,7 +15,7 @@ use Rattle.frame_spec.specs.FrameRuns.{FrameStep, Halts, GoesTo, Reaches, Calls,
 use Rattle.frame_spec.specs.FrameReports.{shown_start}
 use Rattle.frame_spec.specs.FrameVerdict.{Whole, entry_frame}
 use Rattle.frame_texts_spec.specs.FrameTexts as texts
-use Rattle.frame_texts_spec.specs.FrameTexts.{FramedEnding, FramedText, FramedTold, FramedIs, FramedRefused, first_of, framed_of}
+use Rattle.frame_texts_spec.specs.FrameTexts.{FramedEnding, FramedTold, FramedIs, FramedRefused, first_of, framed_of}
 use Rattle.frame_texts_spec.specs.FrameReplays.{checks_of, ending_answer, false_at_head, found_of, head_answer, is_found, require_answer, run_answer, sized_answer, start_answer, step_of, told_answer}
 use Rattle.frame_texts_spec.specs.CallTexts.{Plain}
 use Rattle.frame_texts_spec.specs.CallReplays.{allowed, block_answer, call_checks, call_ending_answer, call_head_answer, call_run_answer, call_sized_answer, call_start_answer, call_told_answer, changes_of, first_wrong, has_called, is_calling, needs_answer, outcome, wrong_at}
@@ -123,7 +123,7 @@ module _ (f : Frame) (none : f.stepped ≡ []) where
   none_wrong start n (Cut at m) e = refl
   none_wrong start n (Broken line at m) e = refl
 
-  never_wrong : (k : ℕ) (start : Start) (n : ℕ) → first_wrong f k start [] n ≡ None
+  pub never_wrong : (k : ℕ) (start : Start) (n : ℕ) → first_wrong f k start [] n ≡ None
   never_wrong k start zero = refl
   never_wrong k start (suc n) =
       ap (λ o. first_of o (wrong_at f start [] n (run f k start n))) (never_wrong k start n) ∙ none_wrong start n (run f k start n) (never_calling k start n)
