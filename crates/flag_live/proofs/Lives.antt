@@ -14,27 +14,29 @@ use Rattle.graph_nodes.specs.declared.nodes.Successor.{Successor}
 use Rattle.graph_nodes.specs.declared.nodes.Letter.TheVariants.{Return}
 use Rattle.graph_nodes.specs.declared.nodes.Node.{Node}
 use Rattle.graph_nodes.specs.declared.nodes.Graph.{Graph}
+use Rattle.flag_live.specs.GraphReads.{IsLiveIn, IsKeptLiveIn}
 use Rattle.flag_live.specs.Reachable.{Reaches, IsMarked}
 use Rattle.flag_live.specs.Vertices.{IsNodeAt, IsEdge, IsStart}
 use Rattle.graph_nodes.specs.Places.{AreRising}
 use Rattle.flag_live.specs.Meanings.{AreReads, LeadsOn, IsOn, on_successor, on_exit, IsLiveNode, AreLiveBelow, AreLive}
 use Rattle.flag_live.specs.Keeps.{IsKeptBesides, IsKeptWith, IsSetOf}
 use Rattle.flag_live.proofs.Located.{node_is}
+use Rattle.flag_live.proofs.Graphs.{stands_address, live_in}
 use Rattle.flag_live.proofs.Readings.{reads_are, live_is}
 
 -- the marks of what is reached over sorted edges
-pub readers_are : (p : Program) (g : Graph) (f : ℕ) (nodes : List Node) (edges moved edges' : List (ℕ ×
+pub readers_are : (g : Graph) (f : ℕ) (nodes : List Node) (edges moved edges' : List (ℕ ×
     ℕ)) (starts starts' : List ℕ) (count : ℕ) (marked : List Bool)
-    → f < 4 → nodes ≡ g.nodes.items → edges' ≡ moved → starts' ≡ starts → count ≡ length g.nodes.items
+    → nodes ≡ g.nodes.items → edges' ≡ moved → starts' ≡ starts → count ≡ length g.nodes.items
     → ((e : ℕ × ℕ) → Contains edges e → IsEdge nodes f (length nodes) e) → (AreRising nodes → (e : ℕ × ℕ) → IsEdge nodes f (length nodes) e → Contains edges e)
     → IsPermutation edges moved → ((v : ℕ) → Contains starts v ↔ IsStart g f v) → ((v : ℕ) → IsMarked marked v ↔ Reaches (count + 1) edges' starts' v)
-    → IsGraph p g → AreReads p g f marked
-readers_are p g f nodes edges moved edges' starts starts' count marked few en ee es ec found all is_moved begun reaches is =
-    reads_are p g f moved starts marked few is
+    → AreRising g.nodes.items → AreReads g f marked
+readers_are g f nodes edges moved edges' starts starts' count marked en ee es ec found all is_moved begun reaches rising =
+    reads_are g f moved starts marked rising
     (λ e has. subst (λ (xs : List Node). IsEdge xs f (length xs) e) en
     (found e (Contains-permutation moved edges e (IsPermutation-sym edges moved is_moved) has)))
     (λ e edge. Contains-permutation edges moved e is_moved
-    (all (subst (λ (xs : List Node). AreRising xs) (sym en) is.rising) e (subst (λ (xs : List Node). IsEdge xs f (length xs) e) (sym en) edge)))
+    (all (subst (λ (xs : List Node). AreRising xs) (sym en) rising) e (subst (λ (xs : List Node). IsEdge xs f (length xs) e) (sym en) edge)))
     begun
     (λ v. subst (λ (n : ℕ). IsMarked marked v ↔ Reaches (n + 1) moved starts v) ec
     (subst (λ (xs : List ℕ). IsMarked marked v ↔ Reaches (count + 1) moved xs v) es (subst (λ (xs : List (ℕ × ℕ)). IsMarked marked v ↔
@@ -76,12 +78,12 @@ live_more nodes marked f k live new b m here e before found only =
       ];
     }
 
-pub lives_are : (p : Program) (g : Graph) (f k : ℕ) (marked live : List Bool) → f < 4 → k ≡ length g.nodes.items → AreLiveBelow g.nodes.items marked f k live
-    → IsGraph p g → AreReads p g f marked → AreLive p g f live
-lives_are p g f k marked live few full below is reads = record {
+pub lives_are : (g : Graph) (f k : ℕ) (marked live : List Bool) → k ≡ length g.nodes.items → AreLiveBelow g.nodes.items marked f k live
+    → AreRising g.nodes.items → AreReads g f marked → AreLive g f live
+lives_are g f k marked live full below rising reads = record {
   each = λ i n at.
       let low = at.within in
-      live_is p g f i n marked (get_or live i false) few is reads at (below.found i n (omega arith) at, below.only is.rising i n (omega arith) at);
+      live_is g f i n marked (get_or live i false) rising reads at (below.found i n (omega arith) at, below.only rising i n (omega arith) at);
 }
 
 -- the keeps of one node more
@@ -110,20 +112,20 @@ pub same_all : (old new : List Node) (i : ℕ) → length old ≤ i → AllZip I
 same_all old new i all same = subst (λ (xs : List Node). AllZip IsSameNode xs new) (take_all i old all) same
 
 -- the bit of a flag is whether it is live
-flag_live : (p : Program) (set : ℕ) (a : ℕ) (n z c v : Bool) → IsSetOf set n z c v
-    → (n ≡ true) ↔ IsLive p 3 a → (z ≡ true) ↔ IsLive p 2 a → (c ≡ true) ↔ IsLive p 1 a → (v ≡ true) ↔ IsLive p 0 a
-    → (f : ℕ) → f < 4 → (has_flag set f ≡ true) ↔ IsLive p f a
-flag_live p set a n z c v is three two one none zero few = subst (λ (b : Bool). (b ≡ true) ↔ IsLive p 0 a) (sym is.overflow) none
-flag_live p set a n z c v is three two one none (suc zero) few = subst (λ (b : Bool). (b ≡ true) ↔ IsLive p 1 a) (sym is.carry) one
-flag_live p set a n z c v is three two one none (suc (suc zero)) few = subst (λ (b : Bool). (b ≡ true) ↔ IsLive p 2 a) (sym is.zeroed) two
-flag_live p set a n z c v is three two one none (suc (suc (suc zero))) few = subst (λ (b : Bool). (b ≡ true) ↔ IsLive p 3 a) (sym is.negative) three
-flag_live p set a n z c v is three two one none (suc (suc (suc (suc f)))) few = absurd (omega arith)
+flag_live : (g : Graph) (set : ℕ) (a : ℕ) (n z c v : Bool) → IsSetOf set n z c v
+    → (n ≡ true) ↔ IsLiveIn g 3 a → (z ≡ true) ↔ IsLiveIn g 2 a → (c ≡ true) ↔ IsLiveIn g 1 a → (v ≡ true) ↔ IsLiveIn g 0 a
+    → (f : ℕ) → f < 4 → (has_flag set f ≡ true) ↔ IsLiveIn g f a
+flag_live g set a n z c v is three two one none zero few = subst (λ (b : Bool). (b ≡ true) ↔ IsLiveIn g 0 a) (sym is.overflow) none
+flag_live g set a n z c v is three two one none (suc zero) few = subst (λ (b : Bool). (b ≡ true) ↔ IsLiveIn g 1 a) (sym is.carry) one
+flag_live g set a n z c v is three two one none (suc (suc zero)) few = subst (λ (b : Bool). (b ≡ true) ↔ IsLiveIn g 2 a) (sym is.zeroed) two
+flag_live g set a n z c v is three two one none (suc (suc (suc zero))) few = subst (λ (b : Bool). (b ≡ true) ↔ IsLiveIn g 3 a) (sym is.negative) three
+flag_live g set a n z c v is three two one none (suc (suc (suc (suc f)))) few = absurd (omega arith)
 
 -- the assignments that stay are those that are live
-pub stay_live : (p : Program) (g : Graph) (new : List Node) (n z c v : List Bool) → AllZip IsSameNode g.nodes.items new
+pub stay_live : (g : Graph) (new : List Node) (n z c v : List Bool) → AllZip IsSameNode g.nodes.items new
     → ((k : ℕ) (d : Node) → k < length new → IsSetOf (get_or new k d).keeps (get_or n k false) (get_or z k false) (get_or c k false) (get_or v k false))
-    → AreLive p g 3 n → AreLive p g 2 z → AreLive p g 1 c → AreLive p g 0 v → (k : ℕ) (d : Node) → k < length new → IsKeptLive p (get_or new k d)
-stay_live p g new n z c v same kept three two one none k d w =
+    → AreLive g 3 n → AreLive g 2 z → AreLive g 1 c → AreLive g 0 v → All (λ m. IsKeptLiveIn g m) new
+stay_live g new n z c v same kept three two one none k d w =
     let sizes = length_all_zip IsSameNode g.nodes.items new same in
     let inside : k < length g.nodes.items = omega arith in
     let old = get_or g.nodes.items k d in
@@ -132,8 +134,26 @@ stay_live p g new n z c v same kept three two one none k d w =
     let set = kept k d w in
     record {
       small = set.small;
-      exact = subst (λ (a : ℕ). (f : ℕ) → f < 4 → (has_flag (get_or new k d).keeps f ≡ true) ↔ IsLive p f a) (sym one_same.at)
-          (flag_live p (get_or new k d).keeps old.at _ _ _ _ set (three.each k old at) (two.each k old at) (one.each k old at) (none.each k old at));
+      exact = subst (λ (a : ℕ). (f : ℕ) → f < 4 → (has_flag (get_or new k d).keeps f ≡ true) ↔ IsLiveIn g f a) (sym one_same.at)
+          (flag_live g (get_or new k d).keeps old.at _ _ _ _ set (three.each k old at) (two.each k old at) (one.each k old at) (none.each k old at));
+    }
+
+-- so for the program whose graph it is
+pub stay_in : (p : Program) (g : Graph) (new : List Node) → AllZip IsSameNode g.nodes.items new → IsGraph p g → All (λ m. IsKeptLiveIn g m) new →
+    All (λ m. IsKeptLive p m) new
+stay_in p g new same is live k d w =
+    let sizes = length_all_zip IsSameNode g.nodes.items new same in
+    let inside : k < length g.nodes.items = omega arith in
+    let one_same = AllZip-get_or IsSameNode g.nodes.items new k d d same inside in
+    let kept = live k d w in
+    let has = stands_address g (get_or new k d).at (get_or g.nodes.items k d)
+    (record { among = (k, inside, get_or_default g.nodes.items k (get_or g.nodes.items k d) d inside); at = sym one_same.at }) in
+    record {
+      small = kept.small;
+      exact = λ f few. (
+        λ h. (live_in p g f few is (get_or new k d).at has).0 ((kept.exact f few).0 h),
+        λ h. (kept.exact f few).1 ((live_in p g f few is (get_or new k d).at has).1 h),
+      );
     }
 
 -- assignments that stay besides others

@@ -1,110 +1,88 @@
--- What is read on a program's graph.
-use Rattle.std.proofs.Common.{◌≡◌, ℕ, ◌<◌, ◌⊎◌, List, Bool, true, false, length, get_or, refl, sym, ap, ◌∙◌, subst, arith, inl, inr}
+-- What is read on a graph.
+use Rattle.std.proofs.Common.{◌≡◌, ℕ, ◌<◌, List, Bool, true, false, length, get_or, refl, sym, ◌∙◌, subst, arith, inl, inr}
 use Rattle.std.specs.Prelude.{◌↔◌, ◌+◌, Contains}
 use Rattle.std.proofs.lemmas.List.{get_or_default}
-use Rattle.bilv_spec.specs.Run.{Program}
-use Rattle.bilv_spec.specs.Points.{file_row}
-use Rattle.bilv_spec.specs.Graph as graph
-use Rattle.bilv_spec.specs.Graph.{IsAddress, listed, successors_at, successor, may_return, LeadsTo, along, back, ReturnLetter}
-use Rattle.bilv_spec.specs.LiveFlags.{reads_by, surely_by, asserts_flag, ensures_flag, IsLive, IsRead, IsReadAfter, by_assert, by_row, later, on_path, at_exit}
-use Rattle.graph_nodes.specs.Graphs.{has_flag, letter_of, successor_of, IsGraph}
+use Rattle.graph_nodes.specs.Graphs.{has_flag}
+use Rattle.graph_nodes.specs.Places.{AreRising, IsPlace}
 use Rattle.graph_nodes.specs.declared.nodes.Letter.TheVariants.{Return}
 use Rattle.graph_nodes.specs.declared.nodes.Successor.{Successor}
 use Rattle.graph_nodes.specs.declared.nodes.Node.{Node}
 use Rattle.graph_nodes.specs.declared.nodes.Graph.{Graph}
+use Rattle.flag_live.specs.GraphReads.{StandsAt, IsBehindCall, LeadsToIn, along, back, IsReadIn, by_assert, by_row, later, IsReadAfterIn, on_path, at_exit, IsLiveIn}
 use Rattle.flag_live.specs.Reachable as reachable
 use Rattle.flag_live.specs.Reachable.{Reaches, IsMarked}
 use Rattle.flag_live.specs.Vertices as vertices
-use Rattle.flag_live.specs.Vertices.{IsNodeAt, IsEdgeBy, IsEdgeAmong, IsEdgeOf, by_successor, by_exit, IsEdge, of, IsStartAt, IsStartBelow, IsStart, at_node}
-use Rattle.graph_nodes.specs.Places.{IsPlace}
-use Rattle.flag_live.specs.Meanings.{IsReadBack, ensured, behind, AreReads, IsLiveNode, IsOn, on_successor, on_exit}
-use Rattle.flag_live.proofs.Located.{node_is, node_place}
-use Rattle.flag_live.proofs.Graphs.{place_node, node_of, address_place, node_address, successor_has, successor_at, return_letter, goes_letter, letter_goes}
+use Rattle.flag_live.specs.Vertices.{IsNodeAt, IsEdgeBy, IsEdgeOf, by_successor, by_exit, IsEdge, of, IsStartAt, IsStart, at_node}
+use Rattle.flag_live.specs.Meanings.{IsReadBack, ensured, behind, AreReads, LeadsOn, IsLiveNode, IsOn, on_successor, on_exit}
+use Rattle.flag_live.proofs.Located.{node_is, node_place, place_node, node_stands, stands_place, place_stands, one_node}
 
 -- the places of what is read, and the number of the nodes where it is read after a return
-record IsMeant (p : Program) (g : Graph) (f v : ℕ) : Type 0 where
-  at_nodes : (n : Node) → IsNodeAt g.nodes.items v n → IsRead p f n.at
-  back : v ≡ length g.nodes.items → IsReadBack p f
+record IsMeant (g : Graph) (f v : ℕ) : Type 0 where
+  at_nodes : (n : Node) → IsNodeAt g.nodes.items v n → IsReadIn g f n.at
+  back : v ≡ length g.nodes.items → IsReadBack g f
 
-meant_start : (p : Program) (g : Graph) (f v : ℕ) → f < 4 → IsGraph p g → IsStart g f v → IsMeant p g f v
-meant_start p g f v few is (at_node starts) =
+meant_start : (g : Graph) (f v : ℕ) → IsStart g f v → IsMeant g f v
+meant_start g f v (at_node starts) =
     let low = starts.below in
     record {
-      at_nodes = λ n at.
-          let node = node_of p g v n is at in
-          elim (starts.reads n at) as (λ _. IsRead p f n.at) [
-            | inl h ↦ by_assert (sym (node.asserted.exact f few) ∙ h)
-            | inr h ↦ by_row (sym (node.flags.reads.exact f few) ∙ h)
-          ];
+      at_nodes = λ n at. elim (starts.reads n at) as (λ _. IsReadIn g f n.at) [
+        | inl h ↦ by_assert n (node_stands g v n at) h
+        | inr h ↦ by_row n (node_stands g v n at) h
+      ];
       back = λ e. absurd (omega arith);
     }
-meant_start p g f v few is (vertices.at_exit e has) = record {
-  at_nodes = λ n at. let w = at.within in absurd (omega arith);
-  back = λ e. ensured (sym (is.ensured.exact f few) ∙ has);
-}
+meant_start g f v (vertices.at_exit e has) = record { at_nodes = λ n at. let w = at.within in absurd (omega arith); back = λ e. ensured has }
 
 -- where a place is meant, its address is read
-place_read : (p : Program) (g : Graph) (f a u : ℕ) → IsMeant p g f u → IsPlace g.nodes.items a u → IsRead p f a
-place_read p g f a u meant place = let n = place_node g.nodes.items a u place in subst (λ (x : ℕ). IsRead p f x) n.2 (meant.at_nodes n.0 n.1)
+place_read : (g : Graph) (f a u : ℕ) → IsMeant g f u → IsPlace g.nodes.items a u → IsReadIn g f a
+place_read g f a u meant place = let n = place_node g.nodes.items a u place in subst (λ (x : ℕ). IsReadIn g f x) n.2 (meant.at_nodes n.0 n.1)
 
 -- the flag is read after a return from where it is read back
-back_after : (p : Program) (f a : ℕ) → may_return p a ≡ true → IsReadBack p f → IsReadAfter p f a
-back_after p f a may (ensured e) = at_exit may e
-back_after p f a may (behind c b address has read) = on_path (back may address has) read
+back_after : (g : Graph) (f a : ℕ) (n : Node) → StandsAt g a n → n.returns ≡ true → IsReadBack g f → IsReadAfterIn g f a
+back_after g f a n stands returns (ensured e) = at_exit n stands returns e
+back_after g f a n stands returns (behind b call read) = on_path (back n stands returns call) read
+
+-- a node that does not surely assign the flag, and after which it is read, is meant
+meant_later : (g : Graph) (f v w : ℕ) (n : Node) → IsNodeAt g.nodes.items w n → v ≡ w → has_flag n.flags.surely f ≡ false → IsReadAfterIn g f n.at → IsMeant g f v
+meant_later g f v w n at e free after =
+    let low = at.within in
+    record {
+      at_nodes = λ m other.
+          subst (λ (x : Node). IsReadIn g f x.at) (node_is g.nodes.items w n m at (subst (λ (i : ℕ). IsNodeAt g.nodes.items i m) e other))
+          (later n (node_stands g w n at) free after);
+      back = λ same. absurd (omega arith);
+    }
 
 -- an edge by a successor, and by an exit, is meant
-meant_by : (p : Program) (g : Graph) (f u v w : ℕ) (n : Node) (j : ℕ) → f < 4 → IsGraph p g → IsNodeAt g.nodes.items w n → j < length n.successors.items
-    → (s : Successor) → s ≡ get_or n.successors.items j s → IsEdgeBy g.nodes.items w (has_flag n.flags.surely f) s (u, v) → IsMeant p g f u → IsMeant p g f v
-meant_by p g f u v w n j few is at less s here (vertices.back goes free place e) meant =
-    let node = node_of p g w n is at in
-    let low = at.within in
-    let has = subst (λ (x : Successor). Contains (successors_at p n.at) (successor_of x)) (sym here) (successor_has p n j s node less) in
-    let read = place_read p g f s.to u meant place in
-    let after : IsReadAfter p f n.at = on_path (along (successor_of s) has (goes_letter s.letter goes) refl) read in
-    record {
-      at_nodes = λ m other.
-          subst (λ (x : Node). IsRead p f x.at) (node_is g.nodes.items w n m at (subst (λ (i : ℕ). IsNodeAt g.nodes.items i m) e other))
-          (later (sym (node.flags.surely.exact f few) ∙ free) after);
-      back = λ same. absurd (omega arith);
-    }
-meant_by p g f u v w n j few is at less s here (vertices.behind returns place e) meant =
-    let node = node_of p g w n is at in
-    let has = subst (λ (x : Successor). Contains (successors_at p n.at) (successor_of x)) (sym here) (successor_has p n j s node less) in
-    let read = place_read p g f s.to u meant place in
-    record {
-      at_nodes = λ m other. let low = other.within in absurd (omega arith);
-      back = λ same. behind n.at s.to (node_address p g w n is at) (subst
-          (λ (l : graph.Letter). Contains (successors_at p n.at) (successor l s.to)) (ap letter_of returns) has) read;
-    }
+meant_by : (g : Graph) (f u v w : ℕ) (n : Node) (s : Successor) → IsNodeAt g.nodes.items w n → Contains n.successors.items s
+    → IsEdgeBy g.nodes.items w (has_flag n.flags.surely f) s (u, v) → IsMeant g f u → IsMeant g f v
+meant_by g f u v w n s at has (vertices.back goes free place e) meant =
+    meant_later g f v w n at e free (on_path (along n s (node_stands g w n at) has goes refl) (place_read g f s.to u meant place))
+meant_by g f u v w n s at has (vertices.behind returns place e) meant = record {
+  at_nodes = λ m other. let low = other.within in absurd (omega arith);
+  back = λ same.
+      behind s.to (record { call = n; successor = s; among = (w, at.within, at.is); has = has; returns = returns; to = refl })
+      (place_read g f s.to u meant place);
+}
 
-meant_of : (p : Program) (g : Graph) (f u v w : ℕ) (n : Node) → f < 4 → IsGraph p g → IsNodeAt g.nodes.items w n
-    → IsEdgeOf g.nodes.items f w n (u, v) → IsMeant p g f u → IsMeant p g f v
-meant_of p g f u v w n few is at (by_successor (vertices.at j less each)) meant =
+meant_of : (g : Graph) (f u v w : ℕ) (n : Node) → IsNodeAt g.nodes.items w n → IsEdgeOf g.nodes.items f w n (u, v) → IsMeant g f u → IsMeant g f v
+meant_of g f u v w n at (by_successor (vertices.at j less each)) meant =
     let d : Successor = record { letter = Return; to = 0 } in
     let s = get_or n.successors.items j d in
-    meant_by p g f u v w n j few is at less s (get_or_default n.successors.items j d s less) (each d) meant
-meant_of p g f u v w n few is at (by_exit free returns from to) meant =
-    let node = node_of p g w n is at in
-    let low = at.within in
-    let after = back_after p f n.at (sym node.returns ∙ returns) (meant.back from) in
-    record {
-      at_nodes = λ m other.
-          subst (λ (x : Node). IsRead p f x.at) (node_is g.nodes.items w n m at (subst (λ (i : ℕ). IsNodeAt g.nodes.items i m) to other))
-          (later (sym (node.flags.surely.exact f few) ∙ free) after);
-      back = λ same. absurd (omega arith);
-    }
+    meant_by g f u v w n s at (j, less, get_or_default n.successors.items j s d less) (each d) meant
+meant_of g f u v w n at (by_exit free returns from to) meant =
+    meant_later g f v w n at to free (back_after g f n.at n (node_stands g w n at) returns (meant.back from))
 
-meant_edge : (p : Program) (g : Graph) (f u v : ℕ) → f < 4 → IsGraph p g → IsEdge g.nodes.items f (length g.nodes.items) (u, v) → IsMeant p g f u →
-    IsMeant p g f v
-meant_edge p g f u v few is (of w n low at edge) meant = meant_of p g f u v w n few is at edge meant
+meant_edge : (g : Graph) (f u v : ℕ) → IsEdge g.nodes.items f (length g.nodes.items) (u, v) → IsMeant g f u → IsMeant g f v
+meant_edge g f u v (of w n low at edge) meant = meant_of g f u v w n at edge meant
 
 -- what is reached is read
-reached_meant : (p : Program) (g : Graph) (f count : ℕ) (edges : List (ℕ × ℕ)) (starts : List ℕ) → f < 4 → IsGraph p g
+reached_meant : (g : Graph) (f count : ℕ) (edges : List (ℕ × ℕ)) (starts : List ℕ)
     → ((e : ℕ × ℕ) → Contains edges e → IsEdge g.nodes.items f (length g.nodes.items) e) → ((v : ℕ) → Contains starts v → IsStart g f v)
-    → (v : ℕ) → Reaches count edges starts v → IsMeant p g f v
-reached_meant p g f count edges starts few is edge begun v (reachable.start less has) = meant_start p g f v few is (begun v has)
-reached_meant p g f count edges starts few is edge begun v (reachable.along {u = u} there less has) =
-    meant_edge p g f u v few is (edge (u, v) has) (reached_meant p g f count edges starts few is edge begun u there)
+    → (v : ℕ) → Reaches count edges starts v → IsMeant g f v
+reached_meant g f count edges starts edge begun v (reachable.start less has) = meant_start g f v (begun v has)
+reached_meant g f count edges starts edge begun v (reachable.along {u = u} there less has) =
+    meant_edge g f u v (edge (u, v) has) (reached_meant g f count edges starts edge begun u there)
 
 -- marks that have the starts, and with one end of an edge the other
 record IsClosed (g : Graph) (f : ℕ) (marked : List Bool) : Type 0 where
@@ -126,94 +104,66 @@ on_marked g f i n marked closed at free (on_successor among) =
 on_marked g f i n marked closed at free (on_exit returns marks) = closed.edges (length g.nodes.items) i
     (of i n at.within at (by_exit free returns refl refl)) marks
 
--- an address behind a call that is marked wherever it stands marks a read after a return
-behind_marked : (p : Program) (g : Graph) (f : ℕ) (marked : List Bool) → IsGraph p g → IsClosed g f marked → (c b : ℕ) → IsAddress p c
-    → Contains (successors_at p c) (successor ReturnLetter b) → ((j : ℕ) → IsPlace g.nodes.items b j → IsMarked marked j) →
+-- what is read has a place
+read_place : (g : Graph) (f a : ℕ) → IsReadIn g f a → (i : ℕ) × IsPlace g.nodes.items a i
+read_place g f a (by_assert n stands asserts) = stands_place g a n stands
+read_place g f a (by_row n stands reads) = stands_place g a n stands
+read_place g f a (later n stands free after) = stands_place g a n stands
+
+-- an address behind a call, whose place is marked, marks a read after a return
+behind_marked : (g : Graph) (f : ℕ) (marked : List Bool) → IsClosed g f marked → (b k : ℕ) → IsBehindCall g b → IsPlace g.nodes.items b k → IsMarked marked k →
     IsMarked marked (length g.nodes.items)
-behind_marked p g f marked is closed c b address has marks =
-    let call = address_place p g c is address in
-    let caller = place_node g.nodes.items c call.0 call.1 in
-    let calls = node_of p g call.0 caller.0 is caller.1 in
-    let found = successor_at p caller.0 (successor ReturnLetter b) calls (subst
-    (λ (a : ℕ). Contains (successors_at p a) (successor ReturnLetter b)) (sym caller.2) has) in
-    let place = address_place p g b is (listed address has) in
-    let edge : (s : Successor) → IsEdgeBy g.nodes.items call.0 (has_flag caller.0.flags.surely f) (get_or caller.0.successors.items found.0 s)
-    (place.0, length g.nodes.items) =
-    λ s. vertices.behind (return_letter (get_or caller.0.successors.items found.0 s).letter (ap (λ (y : graph.Successor). y.letter) (found.2 s)))
-    (subst (λ (a : ℕ). IsPlace g.nodes.items a place.0) (sym (ap (λ (y : graph.Successor). y.to) (found.2 s))) place.1) refl in
-    closed.edges place.0 (length g.nodes.items) (of call.0 caller.0 caller.1.within caller.1 (by_successor (vertices.at found.0 found.1 edge)))
-    (marks place.0 place.1)
+behind_marked g f marked closed b k call place marks =
+    let s = call.successor in
+    let xs = call.call.successors.items in
+    let i = call.among.0 in
+    let at : IsNodeAt g.nodes.items i call.call = record { within = call.among.1; is = call.among.2 } in
+    let by : IsEdgeBy g.nodes.items i (has_flag call.call.flags.surely f) s (k, length g.nodes.items) =
+    vertices.behind call.returns (subst (λ (a : ℕ). IsPlace g.nodes.items a k) (sym call.to) place) refl in
+    closed.edges k (length g.nodes.items) (of i call.call at.within at (by_successor (vertices.at call.has.0 call.has.1 (λ d.
+    subst (λ (x : Successor). IsEdgeBy g.nodes.items i (has_flag call.call.flags.surely f) x (k, length g.nodes.items))
+    (sym call.has.2 ∙ get_or_default xs call.has.0 s d call.has.1) by)))) marks
 
--- a path to an address that is marked wherever it stands
-path_on : (p : Program) (g : Graph) (f : ℕ) (marked : List Bool) → IsGraph p g → (i : ℕ) (n : Node) → IsNodeAt g.nodes.items i n
-    → (b : ℕ) → ((c : ℕ) → IsAddress p c → Contains (successors_at p c) (successor ReturnLetter b) → IsMarked marked (length g.nodes.items))
-    → ((j : ℕ) → IsPlace g.nodes.items b j → IsMarked marked j) → LeadsTo p n.at b → IsOn g.nodes.items marked n
-path_on p g f marked is i n at b backed marks (along x has goes e) =
-    let node = node_of p g i n is at in
-    let found = successor_at p n x node has in
-    let place = address_place p g x.to is (listed (node_address p g i n is at) has) in
-    on_successor (record {
-      index = found.0;
-      below = found.1;
-      leads = λ s. record {
-        place = place.0;
-        goes = letter_goes (get_or n.successors.items found.0 s).letter (λ r. goes (sym (ap (λ (y : graph.Successor). y.letter) (found.2 s)) ∙ r));
-        is = subst (λ (a : ℕ). IsPlace g.nodes.items a place.0) (sym (ap (λ (y : graph.Successor). y.to) (found.2 s))) place.1;
-        marks = marks place.0 (subst (λ (a : ℕ). IsPlace g.nodes.items a place.0) e place.1);
-      };
-    })
-path_on p g f marked is i n at b backed marks (back {c = c} may address has) =
-    let node = node_of p g i n is at in
-    on_exit (node.returns ∙ may) (backed c address has)
-
-start_marked : (p : Program) (g : Graph) (f : ℕ) (marked : List Bool) → f < 4 → IsGraph p g → IsClosed g f marked → (a i : ℕ) → IsPlace g.nodes.items a i
-    → (asserts_flag p f a ≡ true) ⊎ (reads_by f (file_row p a) ≡ true) → IsMarked marked i
-start_marked p g f marked few is closed a i place starts =
-    let found = place_node g.nodes.items a i place in
-    let node = node_of p g i found.0 is found.1 in
-    let here : IsStartAt f found.0 = elim (subst (λ (x : ℕ). (asserts_flag p f x ≡ true) ⊎ (reads_by f (file_row p x) ≡ true)) (sym found.2) starts) as
-    (λ _. IsStartAt f found.0) [
-      | inl h ↦ inl (node.asserted.exact f few ∙ h)
-      | inr h ↦ inr (node.flags.reads.exact f few ∙ h)
-    ] in
-    closed.starts i (at_node (record {
-      below = place.within;
-      reads = λ n at. subst
-          (λ (x : Node). IsStartAt f x) (node_is g.nodes.items i found.0 n found.1 at) here;
+-- a path to an address whose place is marked
+path_on : (g : Graph) (marked : List Bool) → AreRising g.nodes.items → (a b k : ℕ) (n : Node) → StandsAt g a n → IsPlace g.nodes.items b k → IsMarked marked k
+    → (IsBehindCall g b → IsMarked marked (length g.nodes.items)) → LeadsToIn g a b → IsOn g.nodes.items marked n
+path_on g marked rising a b k n stands place marks backed (along m s other has goes e) =
+    subst (λ (x : Node). IsOn g.nodes.items marked x) (one_node g rising a m n other stands) (on_successor (record {
+      index = has.0;
+      below = has.1;
+      leads = λ d.
+          subst (λ (x : Successor). LeadsOn g.nodes.items marked x) (sym has.2 ∙ get_or_default m.successors.items has.0 s d has.1)
+          (record { place = k; goes = goes; is = subst (λ (x : ℕ). IsPlace g.nodes.items x k) (sym e) place; marks = marks });
     }))
+path_on g marked rising a b k n stands place marks backed (back m other returns call) =
+    subst (λ (x : Node). IsOn g.nodes.items marked x) (one_node g rising a m n other stands) (on_exit returns (backed call))
 
-later_marked : (p : Program) (g : Graph) (f : ℕ) (marked : List Bool) → f < 4 → IsGraph p g → IsClosed g f marked → (a i : ℕ) → IsPlace g.nodes.items a i
-    → surely_by f (file_row p a) ≡ false → ((i : ℕ) (n : Node) → IsNodeAt g.nodes.items i n → n.at ≡ a → IsOn g.nodes.items marked n) → IsMarked marked i
-later_marked p g f marked few is closed a i place free on =
-    let found = place_node g.nodes.items a i place in
-    let node = node_of p g i found.0 is found.1 in
-    on_marked g f i found.0 marked closed found.1 (node.flags.surely.exact f few ∙ ap
-    (λ (x : ℕ). surely_by f (file_row p x)) found.2 ∙ free) (on i found.0 found.1 found.2)
-
-exit_on : (p : Program) (g : Graph) (f : ℕ) (marked : List Bool) → f < 4 → IsGraph p g → IsClosed g f marked → (a i : ℕ) (n : Node) →
-    IsNodeAt g.nodes.items i n → n.at ≡ a
-    → may_return p a ≡ true → ensures_flag p f ≡ true → IsOn g.nodes.items marked n
-exit_on p g f marked few is closed a i n at e may has =
-    let node = node_of p g i n is at in
-    on_exit (node.returns ∙ ap (may_return p) e ∙ may) (closed.starts (length g.nodes.items) (vertices.at_exit refl (is.ensured.exact f few ∙ has)))
+start_marked : (g : Graph) (f : ℕ) (marked : List Bool) → AreRising g.nodes.items → IsClosed g f marked → (a i : ℕ) (n : Node) → StandsAt g a n
+    → IsPlace g.nodes.items a i → IsStartAt f n → IsMarked marked i
+start_marked g f marked rising closed a i n stands place starts = closed.starts i (at_node (record {
+  below = place.within;
+  reads = λ m at. subst (λ (x : Node). IsStartAt f x) (node_is g.nodes.items i n m (place_stands g rising a i n place stands) at) starts;
+}))
 
 mutual
   -- what is read is marked
-  read_marked : (p : Program) (g : Graph) (f : ℕ) (marked : List Bool) → f < 4 → IsGraph p g → IsClosed g f marked → (a : ℕ) → IsRead p f a
+  read_marked : (g : Graph) (f : ℕ) (marked : List Bool) → AreRising g.nodes.items → IsClosed g f marked → (a : ℕ) → IsReadIn g f a
       → (i : ℕ) → IsPlace g.nodes.items a i → IsMarked marked i
-  read_marked p g f marked few is closed a (by_assert asserts) i place = start_marked p g f marked few is closed a i place (inl asserts)
-  read_marked p g f marked few is closed a (by_row reads) i place = start_marked p g f marked few is closed a i place (inr reads)
-  read_marked p g f marked few is closed a (later free after) i place =
-      later_marked p g f marked few is closed a i place free (after_on p g f marked few is closed a after)
+  read_marked g f marked rising closed a (by_assert n stands asserts) i place = start_marked g f marked rising closed a i n stands place (inl asserts)
+  read_marked g f marked rising closed a (by_row n stands reads) i place = start_marked g f marked rising closed a i n stands place (inr reads)
+  read_marked g f marked rising closed a (later n stands free after) i place =
+      on_marked g f i n marked closed (place_stands g rising a i n place stands) free (after_on g f marked rising closed a after n stands)
 
   -- after what is read after, marks lead on
-  after_on : (p : Program) (g : Graph) (f : ℕ) (marked : List Bool) → f < 4 → IsGraph p g → IsClosed g f marked → (a : ℕ) → IsReadAfter p f a
-      → (i : ℕ) (n : Node) → IsNodeAt g.nodes.items i n → n.at ≡ a → IsOn g.nodes.items marked n
-  after_on p g f marked few is closed a (on_path {b = b} leads read) i n at e =
-      path_on p g f marked is i n at b
-      (λ c address has. behind_marked p g f marked is closed c b address has (read_marked p g f marked few is closed b read))
-      (read_marked p g f marked few is closed b read) (subst (λ (x : ℕ). LeadsTo p x b) (sym e) leads)
-  after_on p g f marked few is closed a (at_exit may has) i n at e = exit_on p g f marked few is closed a i n at e may has
+  after_on : (g : Graph) (f : ℕ) (marked : List Bool) → AreRising g.nodes.items → IsClosed g f marked → (a : ℕ) → IsReadAfterIn g f a
+      → (n : Node) → StandsAt g a n → IsOn g.nodes.items marked n
+  after_on g f marked rising closed a (on_path {b = b} leads read) n stands =
+      let place = read_place g f b read in
+      let marks = read_marked g f marked rising closed b read place.0 place.1 in
+      path_on g marked rising a b place.0 n stands place.1 marks (λ call. behind_marked g f marked closed b place.0 call place.1 marks) leads
+  after_on g f marked rising closed a (at_exit m other returns has) n stands =
+      subst (λ (x : Node). IsOn g.nodes.items marked x) (one_node g rising a m n other stands) (on_exit returns
+      (closed.starts (length g.nodes.items) (vertices.at_exit refl has)))
 
 by_below : (nodes : List Node) (w v : ℕ) (assigned : Bool) (s : Successor) (u : ℕ) → w < length nodes → IsEdgeBy nodes w assigned s (u, v) →
     v < length nodes + 1
@@ -229,19 +179,19 @@ start_below : (g : Graph) (f v : ℕ) → IsStart g f v → v < length g.nodes.i
 start_below g f v (at_node is) = (let low = is.below in omega arith)
 start_below g f v (vertices.at_exit e has) = omega arith
 
-back_marked : (p : Program) (g : Graph) (f : ℕ) (marked : List Bool) → f < 4 → IsGraph p g → IsClosed g f marked → IsReadBack p f →
-    IsMarked marked (length g.nodes.items)
-back_marked p g f marked few is closed (ensured has) = closed.starts (length g.nodes.items) (vertices.at_exit refl (is.ensured.exact f few ∙ has))
-back_marked p g f marked few is closed (behind c b address has read) = behind_marked p g f marked is closed c b address has
-    (read_marked p g f marked few is closed b read)
+back_marked : (g : Graph) (f : ℕ) (marked : List Bool) → AreRising g.nodes.items → IsClosed g f marked → IsReadBack g f → IsMarked marked (length g.nodes.items)
+back_marked g f marked rising closed (ensured has) = closed.starts (length g.nodes.items) (vertices.at_exit refl has)
+back_marked g f marked rising closed (behind b call read) =
+    let place = read_place g f b read in
+    behind_marked g f marked closed b place.0 call place.1 (read_marked g f marked rising closed b read place.0 place.1)
 
--- the marks of what is reached over the edges of a program's graph
-pub reads_are : (p : Program) (g : Graph) (f : ℕ) (edges : List (ℕ × ℕ)) (starts : List ℕ) (marked : List Bool) → f < 4 → IsGraph p g
+-- the marks of what is reached over the edges of a graph
+pub reads_are : (g : Graph) (f : ℕ) (edges : List (ℕ × ℕ)) (starts : List ℕ) (marked : List Bool) → AreRising g.nodes.items
     → ((e : ℕ × ℕ) → Contains edges e → IsEdge g.nodes.items f (length g.nodes.items) e) →
     ((e : ℕ × ℕ) → IsEdge g.nodes.items f (length g.nodes.items) e → Contains edges e)
-    → ((v : ℕ) → Contains starts v ↔ IsStart g f v) → ((v : ℕ) → IsMarked marked v ↔ Reaches (length g.nodes.items + 1) edges starts v) → AreReads p g f marked
-reads_are p g f edges starts marked few is found all begun reaches =
-    let meant = reached_meant p g f (length g.nodes.items + 1) edges starts few is found (λ v has. (begun v).0 has) in
+    → ((v : ℕ) → Contains starts v ↔ IsStart g f v) → ((v : ℕ) → IsMarked marked v ↔ Reaches (length g.nodes.items + 1) edges starts v) → AreReads g f marked
+reads_are g f edges starts marked rising found all begun reaches =
+    let meant = reached_meant g f (length g.nodes.items + 1) edges starts found (λ v has. (begun v).0 has) in
     let closed : IsClosed g f marked = record {
       starts = λ v start. (reaches v).1 (reachable.start (start_below g f v start) ((begun v).1 start));
       edges = λ u v edge marks. (reaches v).1 (reachable.along ((reaches u).0 marks) (edge_below g.nodes.items f u v edge) (all (u, v) edge));
@@ -249,55 +199,45 @@ reads_are p g f edges starts marked few is found all begun reaches =
     record {
       at_nodes = λ i n at. (
         λ marks. (meant i ((reaches i).0 marks)).at_nodes n at,
-        λ read. read_marked p g f marked few is closed n.at read i (node_place g.nodes.items i n at),
+        λ read. read_marked g f marked rising closed n.at read i (node_place g.nodes.items i n at),
       );
-      back = (λ marks. (meant (length g.nodes.items) ((reaches (length g.nodes.items)).0 marks)).back refl, back_marked p g f marked few is closed);
+      back = (λ marks. (meant (length g.nodes.items) ((reaches (length g.nodes.items)).0 marks)).back refl, back_marked g f marked rising closed);
     }
 
 -- marks lead on after a node exactly where the flag is read after it
-on_after : (p : Program) (g : Graph) (f i : ℕ) (n : Node) (marked : List Bool) → IsGraph p g → AreReads p g f marked → IsNodeAt g.nodes.items i n →
-    IsOn g.nodes.items marked n → IsReadAfter p f n.at
-on_after p g f i n marked is reads at (on_successor among) =
+on_after : (g : Graph) (f i : ℕ) (n : Node) (marked : List Bool) → AreReads g f marked → IsNodeAt g.nodes.items i n → IsOn g.nodes.items marked n →
+    IsReadAfterIn g f n.at
+on_after g f i n marked reads at (on_successor among) =
     let d : Successor = record { letter = Return; to = 0 } in
-    let node = node_of p g i n is at in
+    let s = get_or n.successors.items among.index d in
     let leads = among.leads d in
-    let there = place_node g.nodes.items (get_or n.successors.items among.index d).to leads.place leads.is in
-    on_path (along (successor_of (get_or n.successors.items among.index d)) (successor_has p n among.index d node among.below)
-    (goes_letter (get_or n.successors.items among.index d).letter leads.goes) refl)
-    (subst (λ (a : ℕ). IsRead p f a) there.2 ((reads.at_nodes leads.place there.0 there.1).0 leads.marks))
-on_after p g f i n marked is reads at (on_exit returns marks) =
-    let node = node_of p g i n is at in
-    back_after p f n.at (sym node.returns ∙ returns) (reads.back.0 marks)
+    let there = place_node g.nodes.items s.to leads.place leads.is in
+    on_path (along n s (node_stands g i n at) (among.index, among.below, get_or_default n.successors.items among.index s d among.below) leads.goes refl)
+    (subst (λ (a : ℕ). IsReadIn g f a) there.2 ((reads.at_nodes leads.place there.0 there.1).0 leads.marks))
+on_after g f i n marked reads at (on_exit returns marks) = back_after g f n.at n (node_stands g i n at) returns (reads.back.0 marks)
 
-place_marked : (p : Program) (g : Graph) (f b : ℕ) (marked : List Bool) → AreReads p g f marked → IsRead p f b → (j : ℕ) → IsPlace g.nodes.items b j →
-    IsMarked marked j
-place_marked p g f b marked reads read j place =
+place_marked : (g : Graph) (f b : ℕ) (marked : List Bool) → AreReads g f marked → IsReadIn g f b → (j : ℕ) → IsPlace g.nodes.items b j → IsMarked marked j
+place_marked g f b marked reads read j place =
     let there = place_node g.nodes.items b j place in
-    (reads.at_nodes j there.0 there.1).1 (subst (λ (a : ℕ). IsRead p f a) (sym there.2) read)
+    (reads.at_nodes j there.0 there.1).1 (subst (λ (a : ℕ). IsReadIn g f a) (sym there.2) read)
 
-after_is_on : (p : Program) (g : Graph) (f i : ℕ) (n : Node) (marked : List Bool) → f < 4 → IsGraph p g → AreReads p g f marked → IsNodeAt g.nodes.items i n →
-    (a : ℕ) → n.at ≡ a
-    → IsReadAfter p f a → IsOn g.nodes.items marked n
-after_is_on p g f i n marked few is reads at a e (on_path {b = b} leads read) =
-    path_on p g f marked is i n at b (λ c address has. reads.back.1 (behind c b address has read)) (place_marked p g f b marked reads read) (subst
-    (λ (x : ℕ). LeadsTo p x b) (sym e) leads)
-after_is_on p g f i n marked few is reads at a e (at_exit may has) =
-    let node = node_of p g i n is at in
-    on_exit (node.returns ∙ ap (may_return p) e ∙ may) (reads.back.1 (ensured has))
+after_is_on : (g : Graph) (f : ℕ) (marked : List Bool) → AreRising g.nodes.items → AreReads g f marked → (a : ℕ) (n : Node) → StandsAt g a n
+    → IsReadAfterIn g f a → IsOn g.nodes.items marked n
+after_is_on g f marked rising reads a n stands (on_path {b = b} leads read) =
+    let place = read_place g f b read in
+    path_on g marked rising a b place.0 n stands place.1 (place_marked g f b marked reads read place.0 place.1)
+    (λ call. reads.back.1 (behind b call read)) leads
+after_is_on g f marked rising reads a n stands (at_exit m other returns has) =
+    subst (λ (x : Node). IsOn g.nodes.items marked x) (one_node g rising a m n other stands) (on_exit returns (reads.back.1 (ensured has)))
 
-pub live_is : (p : Program) (g : Graph) (f i : ℕ) (n : Node) (marked : List Bool) (live : Bool) → f < 4 → IsGraph p g → AreReads p g f marked →
+pub live_is : (g : Graph) (f i : ℕ) (n : Node) (marked : List Bool) (live : Bool) → AreRising g.nodes.items → AreReads g f marked →
     IsNodeAt g.nodes.items i n
-    → (live ≡ true) ↔ IsLiveNode g.nodes.items marked f n → (live ≡ true) ↔ IsLive p f n.at
-live_is p g f i n marked live few is reads at exact =
-    let node = node_of p g i n is at in (
-      λ e. (let found = exact.0 e in record {
-        assigns = sym (node.flags.assigns.exact f few) ∙ found.assigns;
-        read = on_after p g f i n marked is reads at
-            found.on;
-      }),
+    → (live ≡ true) ↔ IsLiveNode g.nodes.items marked f n → (live ≡ true) ↔ IsLiveIn g f n.at
+live_is g f i n marked live rising reads at exact =
+    let stands = node_stands g i n at in (
+      λ e. (let found = exact.0 e in record { node = n; stands = stands; assigns = found.assigns; read = on_after g f i n marked reads at found.on }),
       λ lives. exact.1 (record {
-        assigns = node.flags.assigns.exact f few ∙ lives.assigns;
-        on = after_is_on p g f i n marked few is reads at n.at refl
-            lives.read;
+        assigns = subst (λ (x : Node). has_flag x.flags.assigns f ≡ true) (one_node g rising n.at lives.node n lives.stands stands) lives.assigns;
+        on = after_is_on g f marked rising reads n.at n stands lives.read;
       }),
     )

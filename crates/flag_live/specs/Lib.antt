@@ -1,4 +1,5 @@
 pub mod Asked
+pub mod GraphReads
 pub mod Keeps
 pub mod Meanings
 pub mod Reachable

@@ -1,26 +1,24 @@
--- Where a flag is read, by the places of a program's graph.
-use Rattle.std.specs.Prelude.{ℕ, ◌≡◌, ◌≢◌, ◌<◌, ◌↔◌, Bool, true, List, length, slice_index_or, Contains}
-use Rattle.bilv_spec.specs.Run.{Program}
-use Rattle.bilv_spec.specs.Graph.{IsAddress, successors_at, successor, ReturnLetter}
-use Rattle.bilv_spec.specs.LiveFlags.{IsRead, IsLive, ensures_flag}
+-- Where a flag is read, by the places of a graph's nodes.
+use Rattle.std.specs.Prelude.{ℕ, ◌≡◌, ◌≢◌, ◌<◌, ◌↔◌, Bool, true, List, length, slice_index_or}
 use Rattle.graph_nodes.specs.Graphs.{has_flag}
+use Rattle.graph_nodes.specs.Places.{AreRising, IsPlace}
 use Rattle.graph_nodes.specs.declared.nodes.Letter.TheVariants.{Return}
 use Rattle.graph_nodes.specs.declared.nodes.Successor.{Successor}
 use Rattle.graph_nodes.specs.declared.nodes.Node.{Node}
 use Rattle.graph_nodes.specs.declared.nodes.Graph.{Graph}
+use Rattle.flag_live.specs.GraphReads.{IsBehindCall, IsReadIn, IsLiveIn}
 use Rattle.flag_live.specs.Reachable.{IsMarked}
 use Rattle.flag_live.specs.Vertices.{IsNodeAt}
-use Rattle.graph_nodes.specs.Places.{AreRising, IsPlace}
 
 -- the flag is read after a return: at an exit, or behind a call
-pub data IsReadBack (p : Program) (f : ℕ) : Type 0 where
-  ensured : ensures_flag p f ≡ true → IsReadBack p f
-  behind : (c b : ℕ) → IsAddress p c → Contains (successors_at p c) (successor ReturnLetter b) → IsRead p f b → IsReadBack p f
+pub data IsReadBack (g : Graph) (f : ℕ) : Type 0 where
+  ensured : has_flag g.ensured f ≡ true → IsReadBack g f
+  behind : (b : ℕ) → IsBehindCall g b → IsReadIn g f b → IsReadBack g f
 
 -- marked are the places of the nodes from which on the flag is read, and the number of the nodes where it is read after a return
-pub record AreReads (p : Program) (g : Graph) (f : ℕ) (marked : List Bool) : Type 0 where
-  pub at_nodes : (i : ℕ) (n : Node) → IsNodeAt g.nodes.items i n → IsMarked marked i ↔ IsRead p f n.at
-  pub back : IsMarked marked (length g.nodes.items) ↔ IsReadBack p f
+pub record AreReads (g : Graph) (f : ℕ) (marked : List Bool) : Type 0 where
+  pub at_nodes : (i : ℕ) (n : Node) → IsNodeAt g.nodes.items i n → IsMarked marked i ↔ IsReadIn g f n.at
+  pub back : IsMarked marked (length g.nodes.items) ↔ IsReadBack g f
 
 -- a successor that is no return leads to a marked place
 pub record LeadsOn (nodes : List Node) (marked : List Bool) (s : Successor) : Type 0 where
@@ -52,5 +50,5 @@ pub record AreLiveBelow (nodes : List Node) (marked : List Bool) (f upto : ℕ) 
   pub only : AreRising nodes → (i : ℕ) (n : Node) → i < upto → IsNodeAt nodes i n → IsLiveNode nodes marked f n → IsMarked live i
 
 -- live are the assignments of the flag by the nodes at the places that are set
-pub record AreLive (p : Program) (g : Graph) (f : ℕ) (live : List Bool) : Type 0 where
-  pub each : (i : ℕ) (n : Node) → IsNodeAt g.nodes.items i n → IsMarked live i ↔ IsLive p f n.at
+pub record AreLive (g : Graph) (f : ℕ) (live : List Bool) : Type 0 where
+  pub each : (i : ℕ) (n : Node) → IsNodeAt g.nodes.items i n → IsMarked live i ↔ IsLiveIn g f n.at

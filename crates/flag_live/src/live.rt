@@ -1,8 +1,6 @@
 //! The nodes whose assignment of a flag is live.
 ghost use Rattle.std.specs.Prelude.{◌≡◌, ◌<◌, ◌+◌, ◌↔◌, ℕ, Bool, true, false, List, IfOk, Contains, length, slice_index_or};
 ghost use Rattle.std.specs.List.Sorted.{IsNonDecreasingBy, IsPermutation};
-ghost use Rattle.bilv_spec.specs.Run.{Program};
-ghost use Rattle.graph_nodes.specs.Graphs.{IsGraph};
 ghost use Rattle.graph_nodes.specs.Places.{AreRising};
 ghost use Rattle.flag_live.specs.Asked.{ensuring};
 ghost use Rattle.flag_live.specs.Meanings.{AreReads, LeadsOn, IsOn, IsLiveNode, AreLive};
@@ -24,7 +22,7 @@ fn sorted(mut edges: Vec<(usize, usize)>) -> Result<Vec<(usize, usize)>, AllocEr
 /// The vertices of a graph that read a flag, where a set of flags is read at the exit. The error is want of memory.
 fn readers(alloc: Global, graph: &Graph, ensured: u8, flag: u8) -> Result<Vec<bool>, AllocError>
     requires { flag < 4 }
-    ensures { (p : Program) → IsGraph p (ensuring graph.now ensured) → IfOk result (λ marked. AreReads p (ensuring graph.now ensured) flag marked.items) }
+    ensures { AreRising graph.now.nodes.items → IfOk result (λ marked. AreReads (ensuring graph.now ensured) flag marked.items) }
 {
     let edges = sorted(edges_of(alloc, &graph.nodes, flag)?)?;
     let starts = starts_of(alloc, graph, ensured, flag)?;
@@ -87,7 +85,7 @@ fn is_live(nodes: &[Node], marked: &[bool], node: &Node, flag: u8) -> bool
 /// For each node of a graph whether its assignment of a flag is live, where a set of flags is read at the exit. The error is want of memory.
 pub fn lives(alloc: Global, graph: &Graph, ensured: u8, flag: u8) -> Result<Vec<bool>, AllocError>
     requires { flag < 4 }
-    ensures { (p : Program) → IsGraph p (ensuring graph.now ensured) → IfOk result (λ live. AreLive p (ensuring graph.now ensured) flag live.items) }
+    ensures { AreRising graph.now.nodes.items → IfOk result (λ live. AreLive (ensuring graph.now ensured) flag live.items) }
 {
     let marked = readers(alloc, graph, ensured, flag)?;
     let mut live = Vec::new(alloc);

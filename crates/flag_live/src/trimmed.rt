@@ -4,7 +4,9 @@ ghost use Rattle.std.specs.Prelude.{◌≡◌, ◌<◌, ◌||◌, ℕ, Bool, tru
 ghost use Rattle.bilv_spec.specs.Run.{Program};
 ghost use Rattle.graph_nodes.specs.Graphs as graphs;
 ghost use Rattle.graph_nodes.specs.Graphs.{IsFlagSet, IsGraph, IsSameNode, IsSameGraph, LiveStay};
+ghost use Rattle.graph_nodes.specs.Places.{AreRising};
 ghost use Rattle.flag_live.specs.Asked.{ensuring, unasked};
+ghost use Rattle.flag_live.specs.GraphReads.{LiveStayIn};
 ghost use Rattle.flag_live.specs.Keeps.{IsKeptBesides, IsSetOf, LiveStayWith};
 
 use crate::live::{is_marked, lives};
@@ -103,6 +105,8 @@ fn with_keeps(alloc: Global, node: &Node, keeps: u8) -> Result<Node, AllocError>
 /// Out of memory.
 pub fn trim(alloc: Global, graph: &Graph, out: u8) -> Result<Graph, AllocError>
     ensures same { IfOk result (λ t. IsSameGraph (ensuring graph.now t.ensured) t) }
+    ensures asked { IfOk result (λ t. IsFlagSet t.ensured (λ f. graphs.has_flag out f || graphs.has_flag graph.now.ensured f)) }
+    ensures alive { AreRising graph.now.nodes.items → IfOk result (λ t. LiveStayIn (ensuring graph.now t.ensured) t) }
     ensures graph { (p : Program) → IsFlagSet out p.out → IsGraph (unasked p) graph.now → IfOk result (λ t. IsGraph p t) }
     ensures live { (p : Program) → IsFlagSet out p.out → IsGraph (unasked p) graph.now → IfOk result (λ t. LiveStay p t) }
 {

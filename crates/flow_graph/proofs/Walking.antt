@@ -17,26 +17,23 @@ use Rattle.std.proofs.lemmas.Map.Keys.{IsDistinct-push, IsDistinct-IsPermutation
 use Rattle.std.proofs.lemmas.Map.Steps.{length-le_from_distinct_below}
 use Rattle.bilv_spec.specs.Run.{Program}
 use Rattle.bilv_spec.specs.Graph as graph
-use Rattle.bilv_spec.specs.Graph.{IsAddress, entry, listed, successors_at}
+use Rattle.bilv_spec.specs.Graph.{IsAddress, successors_at}
 use Rattle.bilv_spec.specs.LiveFlags.{ensures_flag}
 use Rattle.graph_nodes.specs.declared.nodes.Successor.{Successor}
 use Rattle.graph_nodes.specs.declared.nodes.Node.{Node}
 use Rattle.graph_nodes.specs.declared.nodes.Graph.{Graph}
 use Rattle.graph_nodes.specs.Graphs.{IsNode, IsGraph, IsFlagSet, addresses_of, successor_of}
-use Rattle.flow_graph.specs.Walks.{IsSeen, IsMore, IsWhole}
+use Rattle.flow_graph.specs.Walks.{IsSeen, IsMore, IsWhole, IsAddressFrom, entry, other, listed, IsGraphFrom}
 use Rattle.flow_graph.proofs.Members.{same_truth, or_cases, or_left, or_right, any_map, maps, place_in, at_in, in_cases, head_in, tail_in}
 use Rattle.flow_graph.proofs.Orders.{Climbs, climbs}
 use Rattle.flow_graph.proofs.FlagSets.{take_whole}
 
-abbrev pub target : Successor → ℕ
-target s = s.to
-
--- so many of the successors are through
-pub record Finding (old : List ℕ) (successors : List Successor) (i : ℕ) (found : List ℕ) (seen : BTreeSet ℕ) : Type 0 where
+-- the addresses of so many of the items are through
+pub record Finding {X : Type 0} (f : X → ℕ) (old : List ℕ) (items : List X) (i : ℕ) (found : List ℕ) (seen : BTreeSet ℕ) : Type 0 where
   pub seen_is : IsSeen found seen
   pub rest : List ℕ
   pub begins : found ≡ old ++ rest
-  pub any : (a : ℕ) → list_any (nat_eq a) found ≡ (list_any (nat_eq a) old || list_any (λ s. nat_eq a s.to) (take i successors))
+  pub any : (a : ℕ) → list_any (nat_eq a) found ≡ (list_any (nat_eq a) old || list_any (λ s. nat_eq a (f s)) (take i items))
 
 or_false : (b : Bool) → b ≡ (b || false)
 or_false true = refl
@@ -50,24 +47,18 @@ assoc : {X : Type 0} (xs ys zs : List X) → (xs ++ ys) ++ zs ≡ xs ++ (ys ++ z
 assoc [] ys zs = refl
 assoc (x ∷ xs) ys zs = ap (λ l. x ∷ l) (assoc xs ys zs)
 
-pub finding_none : (old : List ℕ) (successors : List Successor) (seen : BTreeSet ℕ) → IsSeen old seen → Finding old successors 0 old seen
-finding_none old successors seen is = record {
-  seen_is = is;
-  rest = [];
-  begins = append_nil old;
-  any = λ a. or_false (list_any (nat_eq a) old);
-}
+pub finding_none : {X : Type 0} (f : X → ℕ) (old : List ℕ) (items : List X) (seen : BTreeSet ℕ) → IsSeen old seen → Finding f old items 0 old seen
+finding_none f old items seen is = record { seen_is = is; rest = []; begins = append_nil old; any = λ a. or_false (list_any (nat_eq a) old) }
 
-pub finding_all : (old : List ℕ) (successors : List Successor) (i : ℕ) (found : List ℕ) (seen : BTreeSet ℕ) → length successors ≤ i →
-    Finding old successors i found seen
-    → IsMore old (map (λ s. s.to) successors) found
-finding_all old successors i found seen le f = record {
-  rest = f.rest;
-  begins = f.begins;
+pub finding_all : {X : Type 0} (f : X → ℕ) (old : List ℕ) (items : List X) (i : ℕ) (found : List ℕ) (seen : BTreeSet ℕ) → length items ≤ i →
+    Finding f old items i found seen → IsMore old (map f items) found
+finding_all f old items i found seen le w = record {
+  rest = w.rest;
+  begins = w.begins;
   any = λ a.
-      f.any a
-      ∙ ap (λ l. list_any (nat_eq a) old || list_any (λ (s : Successor). nat_eq a s.to) l) (take_whole successors i le)
-      ∙ ap (λ b. list_any (nat_eq a) old || b) (sym (any_map (nat_eq a) target successors));
+      w.any a
+      ∙ ap (λ l. list_any (nat_eq a) old || list_any (λ s. nat_eq a (f s)) l) (take_whole items i le)
+      ∙ ap (λ b. list_any (nat_eq a) old || b) (sym (any_map (nat_eq a) f items));
 }
 
 or_three : (a b c : Bool) → ((a || b) || c) ≡ (a || (b || c))
@@ -107,38 +98,39 @@ seen_push found seen more x word new updates is = record {
       ];
 }
 
-module _ (old : List ℕ) (successors : List Successor) (i : ℕ) (s : Successor) (fits : i < length successors) where
-  step_any : (a : ℕ) (found : List ℕ) → list_any (nat_eq a) found ≡ (list_any (nat_eq a) old || list_any (λ (t : Successor). nat_eq a t.to) (take i successors))
-      → (list_any (nat_eq a) found || nat_eq a (get_or successors i s).to) ≡ (list_any (nat_eq a) old ||
-      list_any (λ (t : Successor). nat_eq a t.to) (take (i + 1) successors))
-  step_any a found e =
-      ap (λ b. b || nat_eq a (get_or successors i s).to) e
-      ∙ or_three (list_any (nat_eq a) old) (list_any (λ (t : Successor). nat_eq a t.to) (take i successors)) (nat_eq a (get_or successors i s).to)
-      ∙ ap (λ b. list_any (nat_eq a) old || b) (sym (list_any_more (λ (t : Successor). nat_eq a t.to) successors i s fits))
+-- an address that is found already
+pub find_had : (found : List ℕ) (seen : BTreeSet ℕ) (x : ℕ) → contains nat_cmp seen x ≡ true → IsSeen found seen → IsMore found (x ∷ []) found
+find_had found seen x h is = record {
+  rest = [];
+  begins = append_nil found;
+  any = λ a. had a x found (sym (is.has x) ∙ h) ∙ ap (λ b. list_any (nat_eq a) found || b) (or_false (nat_eq a x));
+}
 
-  -- the next address is found already
-  pub finding_had : (found : List ℕ) (seen : BTreeSet ℕ) → contains nat_cmp seen (get_or successors i s).to ≡ true → Finding old successors i found seen
-      → Finding old successors (i + 1) found seen
-  finding_had found seen h f = record {
-    seen_is = f.seen_is;
-    rest = f.rest;
-    begins = f.begins;
-    any = λ a. had a (get_or successors i s).to found (sym (f.seen_is.has (get_or successors i s).to) ∙ h) ∙ step_any a found (f.any a);
-  }
+-- one that is new
+pub find_new : (found new : List ℕ) (seen more : BTreeSet ℕ) (x : ℕ) → x < 2 ^ 32 → contains nat_cmp seen x ≡ false
+    → ((q : ℕ) → contains nat_cmp more q ≡ (if is_eq (nat_cmp x q) then true else contains nat_cmp seen q)) → new ≡ found ++ x ∷ [] → IsSeen found seen
+    → IsSeen new more × IsMore found (x ∷ []) new
+find_new found new seen more x word is_new updates grown is = (
+  subst (λ l. IsSeen l more) (sym grown) (seen_push found seen more x word is_new updates is),
+  record { rest = x ∷ []; begins = grown; any = λ a. ap (list_any (nat_eq a)) grown ∙ list_any-append (nat_eq a) found (x ∷ []) },
+)
 
-  -- the next address is new
-  pub finding_new : (found new : List ℕ) (seen more : BTreeSet ℕ) → (get_or successors i s).to < 2 ^ 32 →
-      contains nat_cmp seen (get_or successors i s).to ≡ false
-      → ((q : ℕ) → contains nat_cmp more q ≡ (if is_eq (nat_cmp (get_or successors i s).to q) then true else contains nat_cmp seen q))
-      → new ≡ found ++ (get_or successors i s).to ∷ [] → Finding old successors i found seen → Finding old successors (i + 1) new more
-  finding_new found new seen more word is_new updates grown f = record {
-    seen_is = subst (λ l. IsSeen l more) (sym grown) (seen_push found seen more (get_or successors i s).to word is_new updates f.seen_is);
-    rest = f.rest ++ (get_or successors i s).to ∷ [];
-    begins = grown ∙ ap (λ l. l ++ (get_or successors i s).to ∷ []) f.begins ∙ assoc old f.rest ((get_or successors i s).to ∷ []);
-    any = λ a.
-        ap (list_any (nat_eq a)) grown ∙ list_any-append (nat_eq a) found ((get_or successors i s).to ∷ [])
-        ∙ ap (λ b. list_any (nat_eq a) found || b) (sym (or_false (nat_eq a (get_or successors i s).to))) ∙ step_any a found (f.any a);
-  }
+-- the address of one item more
+pub finding_more : {X : Type 0} (f : X → ℕ) (old : List ℕ) (items : List X) (i x : ℕ) (s : X) (found new : List ℕ) (seen more : BTreeSet ℕ)
+    → i < length items → x ≡ f (get_or items i s) → IsSeen new more → IsMore found (x ∷ []) new → Finding f old items i found seen
+    → Finding f old items (i + 1) new more
+finding_more f old items i x s found new seen more fits here is wider w = record {
+  seen_is = is;
+  rest = w.rest ++ wider.rest;
+  begins = wider.begins ∙ ap (λ l. l ++ wider.rest) w.begins ∙ assoc old w.rest wider.rest;
+  any = λ a.
+      wider.any a
+      ∙ ap (λ b. list_any (nat_eq a) found || b) (sym (or_false (nat_eq a x)))
+      ∙ ap (λ b. b || nat_eq a x) (w.any a)
+      ∙ or_three (list_any (nat_eq a) old) (list_any (λ t. nat_eq a (f t)) (take i items)) (nat_eq a x)
+      ∙ ap (λ y. list_any (nat_eq a) old || (list_any (λ t. nat_eq a (f t)) (take i items) || nat_eq a y)) here
+      ∙ ap (λ b. list_any (nat_eq a) old || b) (sym (list_any_more (λ t. nat_eq a (f t)) items i s fits));
+}
 
 -- the entry is found
 pub seen_first : (none seen : BTreeSet ℕ) (x : ℕ) (found : List ℕ) → x < 2 ^ 32 → ((q : ℕ) → contains nat_cmp none q ≡ false)
@@ -160,29 +152,28 @@ pub falls : (count more found : ℕ) → more ≡ count + 1 → count < found �
 falls count more found e lt le = omega arith
 
 -- the nodes are those of the first addresses that are found, and what they lead to is found
-pub record Walk (p : Program) (found : List ℕ) (seen : BTreeSet ℕ) (nodes : List Node) : Type 0 where
+pub record Walk (p : Program) (others found : List ℕ) (seen : BTreeSet ℕ) (nodes : List Node) : Type 0 where
   pub seen_is : IsSeen found seen
-  pub first : list_any (nat_eq p.entry) found ≡ true
-  pub reached : (a : ℕ) → list_any (nat_eq a) found ≡ true → IsAddress p a
+  pub first : (a : ℕ) → list_any (nat_eq a) (p.entry ∷ others) ≡ true → list_any (nat_eq a) found ≡ true
+  pub reached : (a : ℕ) → list_any (nat_eq a) found ≡ true → IsAddressFrom p others a
   pub rest : List ℕ
   pub begins : found ≡ map (λ n. n.at) nodes ++ rest
   pub each : All (λ n. IsNode p n) nodes
   pub stay : All (λ n. n.keeps ≡ n.flags.assigns) nodes
   pub closed : All (λ n. (x : graph.Successor) → Contains (successors_at p n.at) x → list_any (nat_eq x.to) found ≡ true) nodes
 
--- an address of successors is that of one of them
-from_targets : (a : ℕ) (xs : List graph.Successor) → list_any (nat_eq a) (map (λ x. x.to) xs) ≡ true → (x : graph.Successor) × Contains xs x × (x.to ≡ a)
-from_targets a [] h = absurd (cc)
-from_targets a (x ∷ xs) h = elim (in_cases a x.to (map (λ y. y.to) xs) h) [
+-- an image of items is that of one of them
+pub from_images : {X : Type 0} (f : X → ℕ) (a : ℕ) (xs : List X) → list_any (nat_eq a) (map f xs) ≡ true → (x : X) × Contains xs x × (f x ≡ a)
+from_images f a [] h = absurd (cc)
+from_images f a (x ∷ xs) h = elim (in_cases a (f x) (map f xs) h) [
   | inl e ↦ (x, (0, omega arith, refl), sym e)
-  | inr t ↦ (let q = from_targets a xs t in (q.0, (suc q.1.0, (let w = q.1.1 in omega arith), q.1.2), q.2))
+  | inr t ↦ (let q = from_images f a xs t in (q.0, (suc q.1.0, (let w = q.1.1 in omega arith), q.1.2), q.2))
 ]
 
-to_targets : (x : graph.Successor) (xs : List graph.Successor) → Contains xs x → list_any (nat_eq x.to) (map (λ y. y.to) xs) ≡ true
-to_targets x [] (k, w, e) = absurd (omega arith)
-to_targets x (y ∷ ys) (zero, w, e) = subst (λ (z : graph.Successor). list_any (nat_eq x.to) (z.to ∷ map (λ u. u.to) ys)
-    ≡ true) (sym e) (head_in x.to (map (λ u. u.to) ys))
-to_targets x (y ∷ ys) (suc k, w, e) = tail_in x.to y.to (map (λ u. u.to) ys) (to_targets x ys (k, omega arith, e))
+pub to_images : {X : Type 0} (f : X → ℕ) (x : X) (xs : List X) → Contains xs x → list_any (nat_eq (f x)) (map f xs) ≡ true
+to_images f x [] (k, w, e) = absurd (omega arith)
+to_images f x (y ∷ ys) (zero, w, e) = subst (λ z. list_any (nat_eq (f x)) (f z ∷ map f ys) ≡ true) (sym e) (head_in (f x) (map f ys))
+to_images f x (y ∷ ys) (suc k, w, e) = tail_in (f x) (f y) (map f ys) (to_images f x ys (k, omega arith, e))
 
 at_end : (xs : List ℕ) (r : ℕ) (rs : List ℕ) (d : ℕ) → get_or (xs ++ r ∷ rs) (length xs) d ≡ r
 at_end [] r rs d = refl
@@ -206,13 +197,27 @@ node_at Q (n ∷ nodes) b h all = elim (in_cases b n.at (map (λ m. m.at) nodes)
   | inr t ↦ node_at Q nodes b t (All-tail Q n nodes all)
 ]
 
-module _ (p : Program) where
-  pub walk_first : (found : List ℕ) (seen : BTreeSet ℕ) (nodes : List Node) → IsSeen found seen → found ≡ p.entry ∷ [] → nodes ≡ [] → Walk p found seen nodes
-  walk_first found seen nodes is e f = record {
+-- the members of a list
+pub has_of : (a : ℕ) (xs : List ℕ) → list_any (nat_eq a) xs ≡ true → Contains xs a
+has_of a xs h = (let q = place_in a xs h in (q.0, q.1, q.2))
+
+pub of_has : (a : ℕ) (xs : List ℕ) → Contains xs a → list_any (nat_eq a) xs ≡ true
+of_has a xs (k, w, e) = at_in a xs k a w e
+
+module _ (p : Program) (others : List ℕ) where
+  root_of : (a : ℕ) → list_any (nat_eq a) (p.entry ∷ others) ≡ true → IsAddressFrom p others a
+  root_of a h = elim (in_cases a p.entry others h) as (λ _. IsAddressFrom p others a) [
+    | inl q ↦ subst (λ z. IsAddressFrom p others z) (sym q) entry
+    | inr more ↦ other (has_of a others more)
+  ]
+
+  -- the roots are found
+  pub walk_first : (first found : List ℕ) (seen : BTreeSet ℕ) (nodes : List Node) → IsSeen found seen → first ≡ p.entry ∷ [] → IsMore first others found →
+      nodes ≡ [] → Walk p others found seen nodes
+  walk_first first found seen nodes is e more f = record {
     seen_is = is;
-    first = ap (list_any (nat_eq p.entry)) e ∙ head_in p.entry [];
-    reached = λ a h.
-        elim (in_cases a p.entry [] (sym (ap (list_any (nat_eq a)) e) ∙ h)) [ inl q ↦ subst (λ z. IsAddress p z) (sym q) entry | inr none ↦ absurd (cc) ];
+    first = λ a h. roots_are a ∙ h;
+    reached = λ a h. root_of a (sym (roots_are a) ∙ h);
     rest = found;
     begins = ap (λ (l : List Node). map (λ n. n.at) l ++ found) (sym f);
     each = subst (λ l. All (λ n. IsNode p n) l) (sym f) (λ k d w. absurd (omega arith));
@@ -221,11 +226,16 @@ module _ (p : Program) where
         subst (λ (l : List Node). All (λ n. (x : graph.Successor) → Contains (successors_at p n.at) x → list_any (nat_eq x.to) found ≡ true) l) (sym f)
         (λ k d w. absurd (omega arith));
   }
+    where
+      roots_are : (a : ℕ) → list_any (nat_eq a) found ≡ list_any (nat_eq a) (p.entry ∷ others)
+      roots_are a =
+          more.any a ∙ ap (λ l. list_any (nat_eq a) l || list_any (nat_eq a) others) e
+          ∙ ap (λ b. b || list_any (nat_eq a) others) (sym (or_false (nat_eq a p.entry)))
 
   -- one more node
   module _ (found new : List ℕ) (seen more : BTreeSet ℕ) (nodes grown : List Node) (n : Node) (d : ℕ) (fits : length nodes < length found) (at : n.at
       ≡ get_or found (length nodes) d)
-      (is : IsNode p n) (wider : IsMore found (map (λ s. s.to) n.successors.items) new) (w : Walk p found seen nodes) where
+      (is : IsNode p n) (wider : IsMore found (map (λ s. s.to) n.successors.items) new) (w : Walk p others found seen nodes) where
     places : List ℕ
     places = map (λ m. m.at) nodes
 
@@ -244,13 +254,13 @@ module _ (p : Program) where
     targets_are : map (λ (s : Successor). s.to) n.successors.items ≡ map (λ (x : graph.Successor). x.to) (successors_at p n.at)
     targets_are = sym (maps (λ (x : graph.Successor). x.to) successor_of n.successors.items) ∙ ap (map (λ (x : graph.Successor). x.to)) is.successors
 
-    reaches : (a : ℕ) → list_any (nat_eq a) new ≡ true → IsAddress p a
+    reaches : (a : ℕ) → list_any (nat_eq a) new ≡ true → IsAddressFrom p others a
     reaches a h =
         elim (or_cases (list_any (nat_eq a) found) (list_any (nat_eq a) (map (λ (s : Successor). s.to) n.successors.items)) (sym (wider.any a) ∙ h)) [
           | inl q ↦ w.reached a q
           | inr q ↦
-              (let t = from_targets a (successors_at p n.at) (sym (ap (list_any (nat_eq a)) targets_are) ∙ q) in
-              subst (λ z. IsAddress p z) t.2 (listed (w.reached n.at (at_in n.at found (length nodes) d fits (sym at))) t.1))
+              (let t = from_images (λ (x : graph.Successor). x.to) a (successors_at p n.at) (sym (ap (list_any (nat_eq a)) targets_are) ∙ q) in
+              subst (λ z. IsAddressFrom p others z) t.2 (listed (w.reached n.at (at_in n.at found (length nodes) d fits (sym at))) t.1))
         ]
 
     begins_more : grown ≡ nodes ++ n ∷ [] → new ≡ map (λ m. m.at) grown ++ (next_left.1 ++ wider.rest)
@@ -264,11 +274,11 @@ module _ (p : Program) where
         ∙ ap (λ l. l ++ (next_left.1 ++ wider.rest)) (sym (map-append (λ (m : Node). m.at) nodes (n ∷ [])))
         ∙ ap (λ (l : List Node). map (λ m. m.at) l ++ (next_left.1 ++ wider.rest)) (sym is_grown)
 
-    pub walk_more : IsSeen new more → n.keeps ≡ n.flags.assigns → grown ≡ nodes ++ n ∷ [] → Walk p new more grown
+    pub walk_more : IsSeen new more → n.keeps ≡ n.flags.assigns → grown ≡ nodes ++ n ∷ [] → Walk p others new more grown
     walk_more seen_is stays is_grown = record {
       seen_is = seen_is;
-      first = wider.any p.entry ∙ or_left (list_any (nat_eq p.entry) found) (list_any (nat_eq p.entry) (map
-          (λ (s : Successor). s.to) n.successors.items)) w.first;
+      first = λ a h.
+          wider.any a ∙ or_left (list_any (nat_eq a) found) (list_any (nat_eq a) (map (λ (s : Successor). s.to) n.successors.items)) (w.first a h);
       reached = reaches;
       rest = next_left.1 ++ wider.rest;
       begins = begins_more is_grown;
@@ -286,11 +296,11 @@ module _ (p : Program) where
           (λ x h.
           wider.any x.to
           ∙ or_right (list_any (nat_eq x.to) found) (list_any (nat_eq x.to) (map (λ (s : Successor). s.to) n.successors.items))
-          (ap (list_any (nat_eq x.to)) targets_are ∙ to_targets x (successors_at p n.at) h)));
+          (ap (list_any (nat_eq x.to)) targets_are ∙ to_images (λ (y : graph.Successor). y.to) x (successors_at p n.at) h)));
     }
 
   -- when all that is found has its node
-  module _ (found : List ℕ) (seen : BTreeSet ℕ) (nodes : List Node) (le : length found ≤ length nodes) (w : Walk p found seen nodes) where
+  module _ (found : List ℕ) (seen : BTreeSet ℕ) (nodes : List Node) (le : length found ≤ length nodes) (w : Walk p others found seen nodes) where
     found_is : found ≡ map (λ n. n.at) nodes
     found_is =
         w.begins
@@ -298,15 +308,16 @@ module _ (p : Program) where
         (none_left (map (λ (n : Node). n.at) nodes) w.rest (let a = ap length w.begins in let b = length-map nodes (λ (m : Node). m.at) in omega arith))
         ∙ sym (append_nil (map (λ (n : Node). n.at) nodes))
 
-    complete : (a : ℕ) → IsAddress p a → list_any (nat_eq a) found ≡ true
-    complete a entry = w.first
+    complete : (a : ℕ) → IsAddressFrom p others a → list_any (nat_eq a) found ≡ true
+    complete a entry = w.first a (head_in a others)
+    complete a (other h) = w.first a (tail_in a p.entry others (of_has a others h))
     complete to (listed {a} {x} h c) =
         let in_nodes : list_any (nat_eq a) (map (λ (n : Node). n.at) nodes) ≡ true = sym (ap (list_any (nat_eq a)) found_is) ∙ complete a h in
         let n = node_at (λ (m : Node). (y : graph.Successor) → Contains (successors_at p m.at) y →
         list_any (nat_eq y.to) found ≡ true) nodes a in_nodes w.closed in
         n.2 x (subst (λ z. Contains (successors_at p z) x) (sym n.1) c)
 
-    pub walk_whole : IsWhole p nodes
+    pub walk_whole : IsWhole p others nodes
     walk_whole = record {
       all = λ a. (λ h. w.reached a (ap (list_any (nat_eq a)) found_is ∙ h), λ i. sym (ap (list_any (nat_eq a)) found_is) ∙ complete a i);
       distinct = subst (λ l. IsDistinct nat_eq l) found_is w.seen_is.distinct;
@@ -325,10 +336,10 @@ apart : (a b : ℕ) → a ≤ b → nat_eq a b ≡ false → a < b
 apart a b le ne = grind (arith, nat_tests)
 
 -- all nodes, by rising addresses, are the graph
-pub whole_graph : (p : Program) (nodes : List Node) (g : Graph) → IsWhole p nodes → IsPermutation nodes g.nodes.items →
+pub whole_graph : (p : Program) (others : List ℕ) (nodes : List Node) (g : Graph) → IsWhole p others nodes → IsPermutation nodes g.nodes.items →
     IsNonDecreasingBy (λ n. n.at) g.nodes.items
-    → g.narrow ≡ p.machine.narrow → IsFlagSet g.ensured (λ f. ensures_flag p f) → IsGraph p g
-whole_graph p nodes g whole moved rising narrow ensured =
+    → g.narrow ≡ p.machine.narrow → IsFlagSet g.ensured (λ f. ensures_flag p f) → IsGraphFrom p others g
+whole_graph p others nodes g whole moved rising narrow ensured =
     let sorted = g.nodes.items in
     let same : (a : ℕ) → list_any (nat_eq a) (addresses_of g) ≡ list_any (nat_eq a) (map (λ (n : Node). n.at) nodes) =
     λ a.
@@ -340,8 +351,8 @@ whole_graph p nodes g whole moved rising narrow ensured =
     record {
       narrow = narrow;
       all = λ a. (
-        λ (k, w, e). (whole.all a).0 (sym (same a) ∙ at_in a (addresses_of g) k a w e),
-        λ i. let q = place_in a (addresses_of g) (same a ∙ (whole.all a).1 i) in (q.0, q.1, q.2),
+        λ has. (whole.all a).0 (sym (same a) ∙ of_has a (addresses_of g) has),
+        λ i. has_of a (addresses_of g) (same a ∙ (whole.all a).1 i),
       );
       rising = λ i j lt w.
           let fits : j < length (addresses_of g) = rw (length-map sorted (λ (n : Node). n.at)) w in
@@ -351,3 +362,22 @@ whole_graph p nodes g whole moved rising narrow ensured =
       nodes = All-permutation (λ n. IsNode p n) nodes sorted moved whole.each;
       ensured = ensured;
     }
+
+-- with no other root it is the program's graph
+only_entry : (p : Program) (a : ℕ) → IsAddressFrom p [] a → IsAddress p a
+only_entry p a entry = graph.entry
+only_entry p a (other (k, w, e)) = absurd (omega arith)
+only_entry p a (listed h c) = graph.listed (only_entry p _ h) c
+
+from_entry : (p : Program) (a : ℕ) → IsAddress p a → IsAddressFrom p [] a
+from_entry p a graph.entry = entry
+from_entry p a (graph.listed h c) = listed (from_entry p _ h) c
+
+pub alone_graph : (p : Program) (g : Graph) → IsGraphFrom p [] g → IsGraph p g
+alone_graph p g is = record {
+  narrow = is.narrow;
+  all = λ a. (λ has. only_entry p a ((is.all a).0 has), λ at. (is.all a).1 (from_entry p a at));
+  rising = is.rising;
+  nodes = is.nodes;
+  ensured = is.ensured;
+}

@@ -1,12 +1,12 @@
 //! The descent from the function's address to every address of the flow graph.
-ghost use Rattle.std.specs.Prelude.{◌≡◌, IfOk, OnOk, map};
+ghost use Rattle.std.specs.Prelude.{◌≡◌, IfOk, OnOk, map, [], ◌∷◌};
 ghost use Rattle.std.specs.List.Sorted.{IsNonDecreasingBy, IsPermutation};
 ghost use Rattle.bilv_spec.specs.Files.{order_of, program_of};
 ghost use Rattle.notes_value.specs.NoteViews.{notes_of};
 ghost use Rattle.notes_index.specs.Indexed.{AreIndexed};
 ghost use Rattle.graph_nodes.specs.Graphs.{IsGraph, AllStay};
 ghost use Rattle.flow_graph.specs.Programs.{program};
-ghost use Rattle.flow_graph.specs.Walks.{IsSeen, IsMore, IsWhole};
+ghost use Rattle.flow_graph.specs.Walks.{IsSeen, IsMore, IsWhole, IsGraphFrom};
 
 use crate::flags::ensured;
 use crate::node::node;
@@ -19,6 +19,36 @@ use notes_value::Notes;
 use std::alloc::{AllocError, Global};
 use std::collections::BTreeSet;
 
+/// Adds an address, if it is not found yet. The error is want of memory.
+fn find(found: &mut Vec<u32>, seen: &mut BTreeSet<u32>, to: u32) -> Result<(), AllocError>
+    requires { IsSeen found.old.items seen.old }
+    ensures seen { OnOk result (IsSeen found.new.items seen.new) }
+    ensures more { OnOk result (IsMore found.old.items (to ∷ []) found.new.items) }
+{
+    if seen.contains(&to) {
+        return Ok(());
+    }
+    seen.insert(to)?;
+    found.push(to)?;
+    Ok(())
+}
+
+/// Adds each address of roots that is not found yet. The error is want of memory.
+fn find_roots(
+    found: &mut Vec<u32>,
+    seen: &mut BTreeSet<u32>,
+    roots: &[u32],
+) -> Result<(), AllocError>
+    requires { IsSeen found.old.items seen.old }
+    ensures seen { OnOk result (IsSeen found.new.items seen.new) }
+    ensures more { OnOk result (IsMore found.old.items roots.now found.new.items) }
+{
+    for root in roots {
+        find(found, seen, *root)?;
+    }
+    Ok(())
+}
+
 /// Adds each address of successors that is not found yet. The error is want of memory.
 fn find_all(
     found: &mut Vec<u32>,
@@ -30,25 +60,27 @@ fn find_all(
     ensures more { OnOk result (IsMore found.old.items (map (λ s. s.to) successors.now) found.new.items) }
 {
     for successor in successors {
-        let to = successor.to;
-        if !seen.contains(&to) {
-            seen.insert(to)?;
-            found.push(to)?;
-        }
+        find(found, seen, successor.to)?;
     }
     Ok(())
 }
 
-/// The nodes of all addresses of the graph, in the order in which they are found. The error is want of memory.
-fn all_nodes<M: Machine>(alloc: Global, p: &Program, index: &Index) -> Result<Vec<Node>, AllocError>
+/// The nodes of all addresses to which a program's entry and other roots lead, in the order in which they are found. The error is want of memory.
+fn all_nodes<M: Machine>(
+    alloc: Global,
+    p: &Program,
+    others: &[u32],
+    index: &Index,
+) -> Result<Vec<Node>, AllocError>
     requires order { order_of p.now.image.now ≡ M.machine.endian }
     requires index { AreIndexed p.now.notes.now index.now }
-    ensures { IfOk result (λ v. IsWhole (program M.machine p.now) v.items) }
+    ensures { IfOk result (λ v. IsWhole (program M.machine p.now) others.now v.items) }
 {
     let mut found = Vec::new(alloc);
     let mut seen = BTreeSet::new(alloc);
     found.push(p.entry)?;
     seen.insert(p.entry)?;
+    find_roots(&mut found, &mut seen, others)?;
     let mut nodes: Vec<Node> = Vec::new(alloc);
     'descent: while nodes.len() < found.len() {
         let next = node::<M>(alloc, p, index, found[nodes.len()])?;
@@ -67,6 +99,37 @@ fn sorted(mut nodes: Vec<Node>) -> Result<Vec<Node>, AllocError>
     Ok(nodes)
 }
 
+/// The flow graph of a machine's program over a file and notes whose function is at `entry`, with all addresses to which other roots lead; each assignment of a
+/// flag stays. Roots that are found already, or stand more than once, change nothing.
+///
+/// # Errors
+///
+/// Want of memory.
+pub fn descend_from<M: Machine>(
+    alloc: Global,
+    image: &Image,
+    notes: &Notes,
+    entry: u32,
+    others: &[u32],
+) -> Result<Graph, AllocError>
+    requires order { order_of image.now ≡ M.machine.endian }
+    ensures graph { IfOk result (λ g. IsGraphFrom (program_of M.machine image.now (notes_of notes.now) entry) others.now g) }
+    ensures stay { IfOk result (λ g. AllStay g) }
+{
+    let index = index_of(alloc, notes)?;
+    let p = Program {
+        image,
+        notes,
+        entry,
+    };
+    let nodes = sorted(all_nodes::<M>(alloc, &p, others, &index)?)?;
+    Ok(Graph {
+        narrow: is_narrow::<M>(),
+        nodes,
+        ensured: ensured(&notes.ensured),
+    })
+}
+
 /// The flow graph of a machine's program over a file and notes whose function is at an address; each assignment of a flag stays.
 ///
 /// # Errors
@@ -82,16 +145,6 @@ pub fn descend<M: Machine>(
     ensures graph { IfOk result (λ g. IsGraph (program_of M.machine image.now (notes_of notes.now) entry) g) }
     ensures stay { IfOk result (λ g. AllStay g) }
 {
-    let index = index_of(alloc, notes)?;
-    let p = Program {
-        image,
-        notes,
-        entry,
-    };
-    let nodes = sorted(all_nodes::<M>(alloc, &p, &index)?)?;
-    Ok(Graph {
-        narrow: is_narrow::<M>(),
-        nodes,
-        ensured: ensured(&notes.ensured),
-    })
+    let graph = descend_from::<M>(alloc, image, notes, entry, &[])?;
+    Ok(graph)
 }

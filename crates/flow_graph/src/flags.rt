@@ -23,8 +23,8 @@ fn only(flag: u8) -> u8
     }
 }
 
-/// The flags that an expression names outside `old`.
-fn named_flags(expr: &Expr) -> u8
+/// The flags that an expression names outside `old`, as a set: N 8, Z 4, C 2 and V 1.
+pub fn named_flags(expr: &Expr) -> u8
     ensures { IsFlagSet result (λ f. names_flag f (expr_of expr.now)) }
 {
     match expr {

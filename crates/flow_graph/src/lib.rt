@@ -10,4 +10,5 @@ mod rows;
 mod successors;
 mod targets;
 
-pub use descent::descend;
+pub use descent::{descend, descend_from};
+pub use flags::named_flags;

@@ -56,6 +56,7 @@ fn push_line(out: &mut Vec<u8>, node: &Node) -> Result<(), AllocError>
 ///
 /// Want of memory.
 pub fn print_graph(alloc: Global, graph: &Graph) -> Result<Vec<u8>, AllocError>
+    ensures nodes { IfOk result (λ v. v.items ≡ flat_map node_line graph.now.nodes.items) }
     ensures lines { (p : Program) → IsGraph p graph.now → IfOk result
         (λ v. v.items ≡ flat_map (λ n. graph_line p n.at (has_flag n.keeps)) graph.now.nodes.items) }
     ensures text { (p : Program) → IsGraph p graph.now → LiveStay p graph.now → IfOk result (λ v. IsGraphText p v.items) }

@@ -24,9 +24,9 @@ loop-i-preserved c =
     c.is_live.result ≡ true) c.deref-in-loop-i.ensures.value c.is_live.ensures.only))
 
 pub returns : goal.returns
-returns c p is =
+returns c rising =
     let nodes = c.args.graph.now.nodes in
     let all : c.loop-i.i ≡ length nodes.items = omega (arith, nodes.ok.0) in
-    lives_are p (ensuring c.args.graph.now c.args.ensured) c.args.flag c.loop-i.i c.in_ok-marked.marked.items c.loop-i.live.items c.requires all
-    c.loop-i.invariant is
-    (c.in_ok-marked.ensures p is)
+    lives_are (ensuring c.args.graph.now c.args.ensured) c.args.flag c.loop-i.i c.in_ok-marked.marked.items c.loop-i.live.items all
+    c.loop-i.invariant rising
+    (c.in_ok-marked.ensures rising)

@@ -6,7 +6,7 @@ use Rattle.graph_nodes.specs.declared.nodes.Node.{Node}
 use Rattle.flag_live.specs.Keeps.{IsSetOf}
 use Rattle.flag_live.specs.Asked.{ensuring}
 use Rattle.flag_live.proofs.Graphed.{asked_graph, same_graph}
-use Rattle.flag_live.proofs.Lives.{kept_more, same_count, same_all, stay_live}
+use Rattle.flag_live.proofs.Lives.{kept_more, same_count, same_all, stay_live, stay_in}
 use Rattle.flag_live.proofs.trimmed.trim.Goals as goal
 
 pub loop-i-preserved : goal.loop-i-preserved
@@ -41,12 +41,20 @@ returns-clause-graph c p asked is =
     (record { narrow = refl; nodes = same; ensured = refl })
     (asked_graph p c.args.graph.now c.args.out c.joined-ensured.result asked c.joined-ensured.ensures is)
 
+pub returns-clause-alive : goal.returns-clause-alive
+returns-clause-alive c rising =
+    let old = c.args.graph.now.nodes in
+    let all : length old.items ≤ c.loop-i.i = omega (arith, old.ok.0) in
+    stay_live (ensuring c.args.graph.now c.joined-ensured.result) c.loop-i.nodes.items c.in_ok-lives.field-0.items c.in_ok-lives-2.field-0.items
+    c.in_ok-lives-3.field-0.items c.in_ok-lives-4.field-0.items
+    (same_all old.items c.loop-i.nodes.items c.loop-i.i all c.loop-i.invariant.same) c.loop-i.invariant.kept
+    (c.in_ok-lives.ensures rising) (c.in_ok-lives-2.ensures rising) (c.in_ok-lives-3.ensures rising) (c.in_ok-lives-4.ensures rising)
+
 pub returns-clause-live : goal.returns-clause-live
 returns-clause-live c p asked is =
     let g = asked_graph p c.args.graph.now c.args.out c.joined-ensured.result asked c.joined-ensured.ensures is in
     let old = c.args.graph.now.nodes in
     let all : length old.items ≤ c.loop-i.i = omega (arith, old.ok.0) in
-    stay_live p (ensuring c.args.graph.now c.joined-ensured.result) c.loop-i.nodes.items c.in_ok-lives.field-0.items c.in_ok-lives-2.field-0.items
-    c.in_ok-lives-3.field-0.items c.in_ok-lives-4.field-0.items
-    (same_all old.items c.loop-i.nodes.items c.loop-i.i all c.loop-i.invariant.same) c.loop-i.invariant.kept
-    (c.in_ok-lives.ensures p g) (c.in_ok-lives-2.ensures p g) (c.in_ok-lives-3.ensures p g) (c.in_ok-lives-4.ensures p g)
+    stay_in p (ensuring c.args.graph.now c.joined-ensured.result) c.loop-i.nodes.items
+    (same_all old.items c.loop-i.nodes.items c.loop-i.i all c.loop-i.invariant.same) g
+    (returns-clause-alive c is.rising)

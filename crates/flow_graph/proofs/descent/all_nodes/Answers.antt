@@ -9,10 +9,14 @@ use Rattle.flow_graph.proofs.descent.all_nodes.Goals as goal
 pub descent-init : goal.descent-init
 descent-init g c =
     let found = c.in_ok-push.ensures.items ∙ ap (λ l. l ++ c.args.p.now.entry ∷ []) c.new-found.ensures.items in
-    walk_first (program g.M.Machine.machine c.args.p.now) c.push.new.self.items c.insert.new.self c.new-nodes.result.items
-    (seen_first c.new-seen.result c.insert.new.self c.args.p.now.entry c.push.new.self.items (omega arith)
-    (λ q. ap (list_any _) c.new-seen.ensures.empty) c.in_ok-insert.ensures.updates.0 found)
-    found c.new-nodes.ensures.items
+    walk_first (program g.M.Machine.machine c.args.p.now) c.args.others.now c.push.new.self.items c.find_roots.new.found.items c.find_roots.new.seen
+    c.new-nodes.result.items c.in_ok-find_roots.ensures.seen found c.in_ok-find_roots.ensures.more c.new-nodes.ensures.items
+
+pub find_roots-requires : goal.find_roots-requires
+find_roots-requires g c =
+    seen_first c.new-seen.result c.insert.new.self c.args.p.now.entry c.push.new.self.items (omega arith)
+    (λ q. ap (list_any _) c.new-seen.ensures.empty) c.in_ok-insert.ensures.updates.0
+    (c.in_ok-push.ensures.items ∙ ap (λ l. l ++ c.args.p.now.entry ∷ []) c.new-found.ensures.items)
 
 pub descent-smaller : goal.descent-smaller
 descent-smaller g c =
@@ -22,7 +26,7 @@ descent-smaller g c =
 
 pub descent-preserved : goal.descent-preserved
 descent-preserved g c =
-    walk_more (program g.M.Machine.machine c.args.p.now) c.descent.found.items c.find_all.new.found.items c.descent.seen c.find_all.new.seen
+    walk_more (program g.M.Machine.machine c.args.p.now) c.args.others.now c.descent.found.items c.find_all.new.found.items c.descent.seen c.find_all.new.seen
     c.descent.nodes.items
     c.push-in-descent.new.self.items c.in_ok-next.next c.index.result.now (omega arith)
     (c.in_ok-next.ensures.at ∙ c.index.ensures ∙ ap (λ k. get_or c.descent.found.items k c.index.result.now) (let same : c.len-in-descent-2.result
@@ -35,4 +39,4 @@ descent-preserved g c =
 
 pub returns : goal.returns
 returns g c =
-    walk_whole (program g.M.Machine.machine c.args.p.now) c.descent.found.items c.descent.seen c.descent.nodes.items (omega arith) c.descent.invariant
+    walk_whole (program g.M.Machine.machine c.args.p.now) c.args.others.now c.descent.found.items c.descent.seen c.descent.nodes.items (omega arith) c.descent.invariant

@@ -1,29 +1,19 @@
-use Rattle.std.proofs.Common.{arith, sym, ◌∙◌}
-use Rattle.flow_graph.proofs.Walking.{finding_none, finding_all, finding_had, finding_new}
+use Rattle.std.proofs.Common.{refl, arith}
+use Rattle.graph_nodes.specs.declared.nodes.Letter.TheVariants.{Next}
+use Rattle.graph_nodes.specs.declared.nodes.Successor.{Successor}
+use Rattle.flow_graph.proofs.Walking.{finding_none, finding_all, finding_more}
 use Rattle.flow_graph.proofs.descent.find_all.Goals as goal
-use Rattle.flow_graph.proofs.descent.find_all.Goals.{then-not-contains+in_ok-insert+in_ok-push, else-not-contains}
 
 pub loop-successor-init : goal.loop-successor-init
-loop-successor-init c = finding_none c.args.found.now.items c.args.successors.now c.args.seen.now c.requires
+loop-successor-init c = finding_none (λ (s : Successor). s.to) c.args.found.now.items c.args.successors.now c.args.seen.now c.requires
 
 pub loop-successor-preserved : goal.loop-successor-preserved
 loop-successor-preserved c =
-    elim c.if-not-contains.branch [
-      | then-not-contains+in_ok-insert+in_ok-push w ↦
-          rw (w.found-is, w.seen-is)
-          (finding_new c.args.found.now.items c.args.successors.now c.loop-successor.successor-index _
-          (omega arith) c.loop-successor.found.items w.push.new.self.items
-          c.loop-successor.seen w.insert.new.self (omega arith)
-          (sym c.contains.ensures ∙ w.if-not-contains.true) w.in_ok-insert.ensures.updates.0 w.in_ok-push.ensures.items
-          c.loop-successor.invariant)
-      | else-not-contains w ↦
-          rw (w.found-is, w.seen-is)
-          (finding_had c.args.found.now.items c.args.successors.now c.loop-successor.successor-index _
-          (omega arith) c.loop-successor.found.items c.loop-successor.seen
-          (sym c.contains.ensures ∙ w.if-not-contains.false) c.loop-successor.invariant)
-    ]
+    finding_more (λ (s : Successor). s.to) c.args.found.now.items c.args.successors.now c.loop-successor.successor-index _ (record { letter = Next; to = 0 })
+    c.loop-successor.found.items c.find.new.found.items c.loop-successor.seen c.find.new.seen c.loop-successor-test.true refl c.in_ok-find.ensures.seen
+    c.in_ok-find.ensures.more c.loop-successor.invariant
 
 pub returns-clause-more : goal.returns-clause-more
 returns-clause-more c =
-    finding_all c.args.found.now.items c.args.successors.now c.loop-successor.successor-index c.loop-successor.found.items c.loop-successor.seen (omega arith)
-    c.loop-successor.invariant
+    finding_all (λ (s : Successor). s.to) c.args.found.now.items c.args.successors.now c.loop-successor.successor-index c.loop-successor.found.items
+    c.loop-successor.seen (omega arith) c.loop-successor.invariant

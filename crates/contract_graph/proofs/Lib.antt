@@ -1,0 +1,5 @@
+pub mod Asking
+pub mod FlagSets
+pub mod Live
+pub mod OldFlags
+pub mod Shapes
