@@ -52,7 +52,7 @@ gift_is registers stepped calls n (Some c) changed is = λ x found. gift_at regi
 
 -- ---- transfers
 
-arrives_going : (next : ℕ → ℕ → Place → Run) (b : Bool) (k turns n at more : ℕ) (d : Place) → tables.arrive b k turns n at d ≡ tables.Going more (n + 1) d →
+pub arrives_going : (next : ℕ → ℕ → Place → Run) (b : Bool) (k turns n at more : ℕ) (d : Place) → tables.arrive b k turns n at d ≡ tables.Going more (n + 1) d →
     arrive next b k turns n at d ≡ next more (n + 1) d
 arrives_going next false k turns n at more d is = let same : turns ≡ more = cc in ap (λ t. next t (n + 1) d) same
 arrives_going next true k turns n at more d is = by (turns == k) is
@@ -61,7 +61,7 @@ arrives_going next true k turns n at more d is = by (turns == k) is
     by true is = absurd (cc)
     by false is = let same : turns + 1 ≡ more = cc in ap (λ t. next t (n + 1) d) same
 
-arrives_turned : (next : ℕ → ℕ → Place → Run) (b : Bool) (k turns n at : ℕ) (d : Place) → tables.arrive b k turns n at d ≡ tables.Turned at n →
+pub arrives_turned : (next : ℕ → ℕ → Place → Run) (b : Bool) (k turns n at : ℕ) (d : Place) → tables.arrive b k turns n at d ≡ tables.Turned at n →
     arrive next b k turns n at d ≡ Turned at n
 arrives_turned next false k turns n at d is = absurd (cc)
 arrives_turned next true k turns n at d is = by (turns == k) is

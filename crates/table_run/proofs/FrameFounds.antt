@@ -6,8 +6,8 @@ use Rattle.machine_spec.specs.Endings.{AssertFails}
 use Rattle.bilv_spec.specs.Run as tables
 use Rattle.bilv_spec.specs.Run.{Place, false_assert}
 use Rattle.frame_spec.specs.Frames.{Frame, FrameEvent, event_of}
-use Rattle.frame_spec.specs.FrameRuns.{Start, Run, Going, Arriving, Calling, Exited, Failed, Turned, Cut, Broken, Halts, GoesTo, Reaches, Leaves, frame_step, after_step, arrive, turn, arrival, one_more, begins, run, IsOver}
-use Rattle.frame_spec.specs.FrameFound.{Found, FoundExit, FoundEvent, FoundTurn, FoundCut, FoundLeft, found_by, found_within}
+use Rattle.frame_spec.specs.FrameRuns.{Start, Run, Going, Arriving, Exited, Failed, Turned, Halts, GoesTo, Reaches, Leaves, frame_step, after_step, arrive, turn, arrival, one_more, run, IsOver}
+use Rattle.frame_spec.specs.FrameFound.{FoundExit, FoundEvent, FoundTurn, FoundLeft, found_by, found_within}
 use Rattle.frame_spec.specs.Theorems.{as_frame_run}
 use Rattle.frame_spec.proofs.OneEnd.{over_stays}
 

@@ -1,5 +1,5 @@
 -- Where segments begin, and runs of frames without invariants.
-use Rattle.std.proofs.Common.{◌≡◌, ℕ, ◌+◌, ◌<◌, ◌^◌, List, [], true, false, refl, sym, ap, ◌∙◌, subst, arith}
+use Rattle.std.proofs.Common.{◌≡◌, ℕ, ◌+◌, List, [], true, false, refl, sym, ap, ◌∙◌, arith}
 use Rattle.std.specs.Prelude.{Bool, Option, Some, None, ◌||◌, ◌&&◌, is_some, reverse, if◌then◌else◌}
 use Rattle.std.proofs.Math.Path.{fun_ext}
 use Rattle.word_spec.specs.Words.{word}
@@ -17,10 +17,10 @@ use Rattle.bilv_spec.specs.Reports as reports
 use Rattle.bilv_spec.specs.Reports.{turns_within}
 use Rattle.bilv_spec.specs.Answers.{start_in}
 use Rattle.frame_spec.specs.Frames.{Content, Frame, is_head}
-use Rattle.frame_spec.specs.FrameRuns.{Start, Run, Going, Arriving, begins, run}
+use Rattle.frame_spec.specs.FrameRuns.{Start, Run, Going, Arriving, run}
 use Rattle.frame_spec.specs.FrameFound.{Found, found, found_by, found_within}
 use Rattle.frame_spec.specs.FrameReports.{WrittenHead, gifts, registers_of, head_place, kept_byte}
-use Rattle.frame_spec.specs.Theorems.{headless, as_frame_run, as_start}
+use Rattle.frame_spec.specs.Theorems.{as_frame_run, as_start}
 use Rattle.frame_spec.proofs.Headless.{headless_is_run}
 use Rattle.known_bytes.specs.Known.{given}
 use Rattle.machine_law.specs.Facts.{made}

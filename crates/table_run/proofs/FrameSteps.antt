@@ -1,9 +1,8 @@
 -- Heads, and the steps of a frame.
-use Rattle.std.proofs.Common.{◌≡◌, ℕ, zero, suc, ◌+◌, ◌≤◌, ◌<◌, List, [], ◌∷◌, length, get_or, map, true, false, refl, sym, ap, ◌∙◌, subst, arith, inl, inr, eq-eqb, ne_eqb}
-use Rattle.std.specs.Prelude.{Bool, Option, Some, None, ◌==◌, ◌||◌, ◌&&◌, nat_eq, not, if◌then◌else◌}
+use Rattle.std.proofs.Common.{◌≡◌, ℕ, zero, suc, ◌≤◌, ◌<◌, List, [], ◌∷◌, length, get_or, map, true, false, refl, sym, ap, ◌∙◌, subst, arith, inl, inr, eq-eqb, ne_eqb}
+use Rattle.std.specs.Prelude.{Bool, Option, Some, ◌==◌, ◌||◌, ◌&&◌, nat_eq, not, if◌then◌else◌}
 use Rattle.std.specs.List.{list_any}
 use Rattle.std.proofs.lemmas.Bool.{cases_eq}
-use Rattle.std.proofs.lemmas.List.{length-map, get_or_default}
 use Rattle.std.proofs.lemmas.List.Folds.{list_any_none}
 use Rattle.word_spec.specs.Memory.{Endian}
 use Rattle.word_spec.specs.State.{State}
@@ -11,7 +10,7 @@ use Rattle.machine_spec.specs.Endings as events
 use Rattle.bilv_spec.specs.Notes as notes
 use Rattle.bilv_spec.specs.Notes.{value, is_true}
 use Rattle.bilv_spec.specs.Run.{Program, Place, Stops, Arrives, Exits, step, false_assert}
-use Rattle.frame_spec.specs.Frames.{Frame, event_of, is_head, is_invariant, invariants_of}
+use Rattle.frame_spec.specs.Frames.{Frame, event_of, is_head, invariants_of}
 use Rattle.frame_spec.specs.FrameRuns.{FrameStep, Halts, GoesTo, Reaches, Leaves, frame_step, settles}
 use Rattle.notes_value.specs.NoteViews.{assert_of}
 use Rattle.notes_value.specs.declared.notes.Assert.{Assert}

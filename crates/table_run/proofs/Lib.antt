@@ -31,3 +31,7 @@ pub mod SeenSteps
 pub mod CalledRuns
 pub mod Ranks
 pub mod RankedEntries
+pub mod ShownLists
+pub mod ShownSteps
+pub mod ShownRuns
+pub mod MadeTurns

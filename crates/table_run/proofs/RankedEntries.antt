@@ -27,6 +27,9 @@ module _ (p : Program) (contracts : List Contract) (rank : ℕ) (s : State) wher
         IsEntryStateFault (frame_of (whole p contracts) rank).program s f
     fault_of_contract e h = subst (λ (f : Frame). IsEntryStateFault f.program s e) (own_rank p contracts rank x is) h
 
+    pub right_of_own : IsRightTo (frame_of (whole p contracts) rank).program s (2 ^ 32) → IsRightTo (program_in p (Some x)) s (2 ^ 32)
+    right_of_own right = subst (λ (f : Frame). IsRightTo f.program s (2 ^ 32)) (sym (own_rank p contracts rank x is)) right
+
     pub own_is_at : (frame_of (whole p contracts) rank).program.entry ≡ x.at
     own_is_at = sym (ap (λ (f : Frame). f.program.entry) (own_rank p contracts rank x is))
 

@@ -32,11 +32,11 @@ use Rattle.table_run.specs.CalledFrames.{IsAt, IsContractEnd, IsRowEnd, IsSeenAs
 use Rattle.table_run.specs.declared.called_turns.Stand.TheVariants as stand
 use Rattle.table_run.proofs.ContractSteps.{lands_back, no_head}
 
-abbrev all : ℕ → Type 0
+abbrev pub all : ℕ → Type 0
 all a = Unit {0}
 
 -- two steps of a frame come to the same, but for bytes that no machine sees
-abbrev FrameBoth : (State → Type 0) → FrameStep → FrameStep → Type 0
+abbrev pub FrameBoth : (State → Type 0) → FrameStep → FrameStep → Type 0
 FrameBoth P (Halts d) (Halts e) = d ≡ e
 FrameBoth P (GoesTo c) (GoesTo d) = Both all c d × P c.state
 FrameBoth P (Reaches c) (Reaches d) = Both all c d × P c.state
@@ -53,7 +53,7 @@ module _ (p : Program) (stepped : List Contract) (own : Option Contract) where
   q = program_in p own
 
   -- the places that both come to
-  at_both : (c : Place) (now : State) (stack : List ℕ) → Both all c (record { state = now; stack = stack }) → Sound q every c.state → IsAt p c now stack
+  pub at_both : (c : Place) (now : State) (stack : List ℕ) → Both all c (record { state = now; stack = stack }) → Sound q every c.state → IsAt p c now stack
   at_both c now stack both sound = record {
     seen = record {
       rest = both.state ∙ ap (with_memory c.state) (sym (ap (λ (z : State). z.mem) both.state));
@@ -206,7 +206,7 @@ module _ (p : Program) (stepped : List Contract) (own : Option Contract) where
     settles_both (Exits e) (Stops y) both sound b = absurd both
     settles_both (Exits e) (Arrives y) both sound b = absurd both
 
-    frame_both : (choice : ℕ) → FrameBoth (Sound q every) (frame_step f entry c choice) (frame_step f entry d choice)
+    pub frame_both : (choice : ℕ) → FrameBoth (Sound q every) (frame_step f entry c choice) (frame_step f entry d choice)
     frame_both choice =
         subst (λ b. FrameBoth (Sound q every) (frame_step f entry c choice) (unless_outside b f entry d (step q entry d choice))) outside_same
         (settles_both (step q entry c choice) (step q entry d choice) (came choice) (comes_in choice)
@@ -223,7 +223,7 @@ module _ (p : Program) (stepped : List Contract) (own : Option Contract) where
     abbrev E : Endian
     E = p.machine.endian
 
-    written_same : (writes : List Writes) → written E writes s ≡ written E writes now
+    pub written_same : (writes : List Writes) → written E writes s ≡ written E writes now
     written_same [] = refl
     written_same (w ∷ rest) =
         let here : value E w.says s s ≡ value E w.says now now =
@@ -325,7 +325,7 @@ module _ (p : Program) (stepped : List Contract) (own : Option Contract) where
     pc_same : c.state.pc ≡ now.pc
     pc_same = sym (ap (λ (z : State). z.pc) at.seen.rest)
 
-    contract_steps_same : contract_step f entry c g ≡ contract_step f entry dd g
+    pub contract_steps_same : contract_step f entry c g ≡ contract_step f entry dd g
     contract_steps_same =
         ap (λ a. contract_by (contract_at stepped a) f entry c.state c.stack g) pc_same
         ∙ ap (λ l. contract_by (contract_at stepped now.pc) f entry c.state l g) at.stack_is

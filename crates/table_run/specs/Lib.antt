@@ -9,3 +9,4 @@ pub mod FrameEnds
 pub mod Spans
 pub mod CalledFrames
 pub mod CalledRuns
+pub mod MadeCalls

@@ -65,7 +65,7 @@ fn ended(calls: &[CallState], step: u64, called: bool, ending: CalledEnding) -> 
 }
 
 /// Where a run stands after a step, if it goes on.
-fn next_stand(end: CalledStepEnd) -> Option<Stand>
+pub(crate) fn next_stand(end: CalledStepEnd) -> Option<Stand>
     ensures { result ≡ next_of end }
 {
     match end {
@@ -190,7 +190,7 @@ pub fn called_state<M: Machine>(
 }
 
 /// The bytes that the contract of a rank may write, if there is one, for a frame that begins in a state. The error is want of memory.
-fn own_spans<V: View>(
+pub(crate) fn own_spans<V: View>(
     alloc: Global,
     contracts: &[Contract],
     rank: usize,
@@ -209,7 +209,7 @@ fn own_spans<V: View>(
 }
 
 /// The contract of a rank, if there is one, with the bytes that it may write.
-fn own<'a>(contracts: &'a [Contract], rank: usize, spans: &'a [Span]) -> Option<Own<'a>>
+pub(crate) fn own<'a>(contracts: &'a [Contract], rank: usize, spans: &'a [Span]) -> Option<Own<'a>>
     ensures own { own_of result ≡ slice_get (map contract_of contracts.now) rank }
     ensures parts { IfSome result (λ o. (slice_get contracts.now rank ≡ Some o.contract.now) × (o.spans.now ≡ spans.now)) }
 {

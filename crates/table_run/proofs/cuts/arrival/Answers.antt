@@ -1,8 +1,7 @@
-use Rattle.std.proofs.Common.{◌≡◌, List, Some, map, ap, ◌∙◌}
-use Rattle.word_spec.specs.Memory.{Endian, endian}
+use Rattle.std.proofs.Common.{List, map, ap, ◌∙◌}
+use Rattle.word_spec.specs.Memory.{Endian}
 use Rattle.word_spec.specs.State.{State}
 use Rattle.bilv_spec.specs.Run.{Program, false_assert}
-use Rattle.frame_spec.specs.FrameRuns.{Run}
 use Rattle.notes_value.specs.Reads.{IsReadable}
 use Rattle.notes_value.specs.NoteViews.{assert_of, notes_of}
 use Rattle.notes_value.specs.declared.notes.Assert.{Assert}

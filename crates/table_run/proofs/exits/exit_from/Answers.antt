@@ -1,8 +1,7 @@
-use Rattle.std.proofs.Common.{◌≡◌, ◌+◌, ◌≤◌, ◌<◌, ap, subst, arith, refl}
+use Rattle.std.proofs.Common.{◌+◌, ◌<◌, arith}
 use Rattle.std.specs.Prelude.{reverse}
 use Rattle.word_spec.specs.Memory.{byte_in}
 use Rattle.bilv_spec.specs.Run.{Place, Arrives}
-use Rattle.machine_spec.specs.Endings.{Start}
 use Rattle.state_text.specs.Starts.{event_of}
 use Rattle.table_run.specs.Programs.{program_of}
 use Rattle.table_run.proofs.Founds.{first_run, one_step}

@@ -1,5 +1,4 @@
-use Rattle.std.proofs.Common.{◌≡◌, ◌∙◌, refl, subst, IfOk, IfSome, IfNone}
-use Rattle.word_spec.specs.Memory.{byte_in}
+use Rattle.std.proofs.Common.{◌∙◌, refl, subst, IfSome, IfNone}
 use Rattle.bilv_spec.specs.Files.{program_of}
 use Rattle.bilv_spec.specs.Answers.{start_in}
 use Rattle.machine_spec.specs.Endings.{Start}

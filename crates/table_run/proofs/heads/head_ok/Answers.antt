@@ -1,7 +1,6 @@
-use Rattle.std.proofs.Common.{ℕ, Bool, sym, ap, ◌∙◌, subst, map}
+use Rattle.std.proofs.Common.{ℕ, Bool, sym, subst}
 use Rattle.notes_value.specs.Reads.{IsReadable, AreReadable}
 use Rattle.notes_value.specs.NoteViews.{notes_of, assert_of}
-use Rattle.bilv_spec.specs.Files.{program_of}
 use Rattle.table_run.proofs.Lists.{unmapped}
 use Rattle.table_run.proofs.heads.head_ok.Goals as goal
 

@@ -1,12 +1,11 @@
-use Rattle.std.proofs.Common.{◌≡◌, ℕ, ◌≤◌, ◌+◌, ◌-◌, arith, sym, ap, subst, ◌∙◌}
-use Rattle.std.specs.Prelude.{Option, reverse}
+use Rattle.std.proofs.Common.{◌≡◌, ◌+◌, ◌-◌, arith, sym, ◌∙◌}
+use Rattle.std.specs.Prelude.{reverse}
 use Rattle.bilv_spec.specs.Run.{Place}
-use Rattle.frame_spec.specs.Frames.{Content, Frame}
-use Rattle.frame_spec.specs.FrameRuns.{Start, FrameStep, run}
+use Rattle.frame_spec.specs.Frames.{Frame}
+use Rattle.frame_spec.specs.FrameRuns.{Start, run}
 use Rattle.table_run.specs.Programs.{program_of}
 use Rattle.state_text.specs.Starts.{frame_event_of}
-use Rattle.table_run.specs.FrameEnds.{frame_of, start_by, IsFrameStepEnd}
-use Rattle.table_run.specs.declared.ending.FrameStepEnd.{FrameStepEnd}
+use Rattle.table_run.specs.FrameEnds.{frame_of, start_by}
 use Rattle.table_run.proofs.FrameFounds.{found_event, found_exit, found_turn, found_left, found_arrival, reached, reached_left, one_step}
 use Rattle.table_run.proofs.FrameStarts.{first_going}
 use Rattle.table_run.proofs.FrameSteps.{frame_end_is}

@@ -1,8 +1,8 @@
-use Rattle.std.proofs.Common.{◌≡◌, ℕ, ◌≤◌, ◌-◌, arith, refl, sym, ap, subst, ◌∙◌}
-use Rattle.std.specs.Prelude.{[], true, false, None, Option, reverse}
+use Rattle.std.proofs.Common.{◌≡◌, ◌-◌, arith, refl, sym, ap, subst, ◌∙◌}
+use Rattle.std.specs.Prelude.{[], None, reverse}
 use Rattle.word_spec.specs.State.{State}
 use Rattle.bilv_spec.specs.Run.{Place}
-use Rattle.frame_spec.specs.Frames.{Content, Frame, is_head}
+use Rattle.frame_spec.specs.Frames.{Frame, is_head}
 use Rattle.frame_spec.specs.FrameRuns.{Start, run}
 use Rattle.frame_spec.specs.FrameFound.{found_within}
 use Rattle.table_run.specs.Programs.{program_of}

@@ -1,5 +1,5 @@
-use Rattle.std.proofs.Common.{◌≡◌, ℕ, List, ◌++◌, ◌-◌, refl, sym, ap, subst, ◌∙◌}
-use Rattle.std.specs.Prelude.{Some, Option, reverse}
+use Rattle.std.proofs.Common.{◌≡◌, ℕ, List, ◌++◌, ◌-◌, ap, subst, ◌∙◌}
+use Rattle.std.specs.Prelude.{Some, reverse}
 use Rattle.bilv_spec.specs.Run.{Program, Place}
 use Rattle.frame_spec.specs.Frames.{Frame}
 use Rattle.frame_spec.specs.FrameFound.{found_within}

@@ -7,11 +7,11 @@ use Rattle.frame_spec.specs.Frames.{Contract}
 use Rattle.notes_value.specs.FrameViews.{contract_of}
 use Rattle.notes_value.specs.NoteViews.{notes_of}
 use Rattle.table_run.specs.Endings.{fault_of}
-use Rattle.table_run.proofs.RankedEntries.{entry_of_contract, fault_of_contract, own_is_at}
-use Rattle.table_run.proofs.called_entry.called_entry_ok.Goals as goal
+use Rattle.table_run.proofs.RankedEntries.{entry_of_contract, fault_of_contract, own_is_at, right_of_own}
+use Rattle.table_run.proofs.called_entry.called_lines_ok.Goals as goal
 
-pub returns-in-Ok-own_entry_ok-clause-ok : goal.returns-in-Ok-own_entry_ok-clause-ok
-returns-in-Ok-own_entry_ok-clause-ok g c =
+pub returns-in-Ok-own_lines_ok-clause-ok : goal.returns-in-Ok-own_lines_ok-clause-ok
+returns-in-Ok-own_lines_ok-clause-ok g c right =
     let rank : ℕ = c.args.frame.now.rank in
     let before = c.if-frame.false in
     let inside : rank < length c.args.frame.now.contracts.now = omega (arith, before) in
@@ -23,10 +23,10 @@ returns-in-Ok-own_entry_ok-clause-ok g c =
     let p = program_of g.M.Machine.machine c.args.frame.now.image.now notes c.args.frame.now.entry in
     let s = g.M.State.View.view c.args.state.now in
     entry_of_contract p contracts rank s x some
-    (c.in-Ok-own_entry_ok.ensures.ok notes c.args.frame.now.entry (c.requires.pc ∙ own_is_at p contracts rank s x some))
+    (c.in-Ok-own_lines_ok.ensures.ok notes c.args.frame.now.entry (c.requires.pc ∙ own_is_at p contracts rank s x some) (right_of_own p contracts rank s x some right))
 
-pub returns-in-Err-own_entry_ok-clause-fault : goal.returns-in-Err-own_entry_ok-clause-fault
-returns-in-Err-own_entry_ok-clause-fault g c =
+pub returns-in-Err-own_lines_ok-clause-fault : goal.returns-in-Err-own_lines_ok-clause-fault
+returns-in-Err-own_lines_ok-clause-fault g c =
     let rank : ℕ = c.args.frame.now.rank in
     let before = c.if-frame.false in
     let inside : rank < length c.args.frame.now.contracts.now = omega (arith, before) in
@@ -36,5 +36,5 @@ returns-in-Err-own_entry_ok-clause-fault g c =
     ∙ ap (option_map contract_of) (slice_get-get_or c.args.frame.now.contracts.now rank c.index-frame-frame.result inside) in
     let notes = notes_of c.args.frame.now.notes.now in
     let p = program_of g.M.Machine.machine c.args.frame.now.image.now notes c.args.frame.now.entry in
-    fault_of_contract p contracts rank (g.M.State.View.view c.args.state.now) x some (fault_of c.in-Err-own_entry_ok.fault)
-    (c.in-Err-own_entry_ok.ensures.fault notes c.args.frame.now.entry)
+    fault_of_contract p contracts rank (g.M.State.View.view c.args.state.now) x some (fault_of c.in-Err-own_lines_ok.fault)
+    (c.in-Err-own_lines_ok.ensures.fault notes c.args.frame.now.entry)

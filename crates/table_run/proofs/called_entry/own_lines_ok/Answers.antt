@@ -8,7 +8,7 @@ use Rattle.notes_value.specs.Reads.{IsReadable, IsReadableContract}
 use Rattle.table_run.proofs.LinesMeant.{line_meant}
 use Rattle.table_run.proofs.Lists.{unmapped}
 use Rattle.table_run.proofs.RankedEntries.{own_entry}
-use Rattle.table_run.proofs.called_entry.own_entry_ok.Goals as goal
+use Rattle.table_run.proofs.called_entry.own_lines_ok.Goals as goal
 
 pub false_line-requires : goal.false_line-requires
 false_line-requires g c =
@@ -17,24 +17,12 @@ false_line-requires g c =
     unmapped (λ l. IsReadable g.M.State.View.has_register l.says) note_line_of c.args.contract.now.needs.items c.deref.result.now c.deref.ensures.value
     readable.needs
 
-pub returns-in-None-clause-ok : goal.returns-in-None-clause-ok
-returns-in-None-clause-ok g c notes entry at =
+pub returns-clause-ok : goal.returns-clause-ok
+returns-clause-ok g c notes entry at right =
     let s : State = g.M.State.View.view c.args.state.now in
     let m = g.M.Machine.machine in
     own_entry m c.args.image.now notes entry (contract_of c.args.contract.now) s (g.met.M.Machine.states c.args.state.now) at
     (subst (λ a. IsAtPlace m.narrow a) (c.link.ensures ∙ ap s.regs g.met.M.Machine.same_link) c.if-not-is_place.ensures.place)
     (sym c.in_default.is
     ∙ line_meant (endian c.is_big_machine.result) m.endian c.deref.result.now c.args.contract.now.needs.items s s c.false_line.result
-    (c.is_big_machine.ensures ∙ c.requires.order) c.deref.ensures.value c.false_line.ensures) c.in-None.ensures
-
-pub returns-in-Some-first_unkept-clause-fault : goal.returns-in-Some-first_unkept-clause-fault
-returns-in-Some-first_unkept-clause-fault g c notes entry =
-    let s : State = g.M.State.View.view c.args.state.now in
-    let m = g.M.Machine.machine in (
-      subst (λ a. IsAtPlace m.narrow a) (c.link.ensures ∙ ap s.regs g.met.M.Machine.same_link) c.if-not-is_place.ensures.place,
-      sym (sym c.in_default.is
-          ∙ line_meant (endian c.is_big_machine.result) m.endian c.deref.result.now c.args.contract.now.needs.items s s c.false_line.result
-          (c.is_big_machine.ensures ∙ c.requires.order) c.deref.ensures.value c.false_line.ensures),
-      c.in-Some-first_unkept.ensures.0,
-      c.in-Some-first_unkept.ensures.1,
-    )
+    (c.is_big_machine.ensures ∙ c.requires.order) c.deref.ensures.value c.false_line.ensures) right
