@@ -1,9 +1,9 @@
 -- What the layers below the clauses say of a question of a frame gives its answer.
-use Rattle.std.proofs.Common.{◌≡◌, inl, inr, refl, ap, sym, ◌∙◌, subst, add-one, arith, ℕ, zero, suc, ◌+◌, ◌<◌, ◌^◌, Bool, true, false, List, [], Option, Some, None, length}
-use Rattle.std.specs.Prelude.{◌&&◌, ◌==◌, if◌then◌else◌, slice_get, Contains}
+use Rattle.std.proofs.Common.{◌≡◌, inl, inr, refl, ap, sym, ◌∙◌, subst, add-one, arith, ℕ, zero, suc, ◌+◌, ◌<◌, ◌^◌, Bool, true, false, List, [], ◌∷◌, Option, Some, None, length}
+use Rattle.std.specs.Prelude.{◌&&◌, ◌==◌, if◌then◌else◌, slice_get, All, Contains}
 use Rattle.std.proofs.lemmas.Nat.{mod_below}
 use Rattle.std.proofs.Math.Path.{fun_ext}
-use Rattle.word_spec.specs.Words.{bit_at, word}
+use Rattle.word_spec.specs.Words.{add, bit_at, word}
 use Rattle.word_spec.specs.Memory.{Memory}
 use Rattle.word_spec.specs.State.{State, Written}
 use Rattle.clause_spec.specs.Clauses.{Cnf, Satisfies}
@@ -17,19 +17,21 @@ use Rattle.bilv_spec.specs.Verdict.{IsEntryState}
 use Rattle.walk_spec.specs.Unrolled.{byte_of_runs}
 use Rattle.walk_spec.specs.Unrolling.{IsLaidOut}
 use Rattle.frame_spec.specs.Frames.{Contract, Frame, content_at}
-use Rattle.frame_spec.specs.FramePoints.{Anchor, AtEntry, AtHead, has_heads}
-use Rattle.frame_spec.specs.FrameQuestions.{Question, EntryQuestion, FailQuestion, StepQuestion, TurnQuestion, asks_head, Reading, IsTrueOver}
-use Rattle.frame_spec.specs.FrameReports.{AreOfQuestion, IsShown, Refutes, Spends}
-use Rattle.frame_spec.specs.FrameRuns.{Start}
+use Rattle.frame_spec.specs.FramePoints.{Anchor, AtEntry, AtHead, IsAnchor, has_heads}
+use Rattle.frame_spec.specs.FrameQuestions.{Question, EntryQuestion, FailQuestion, StepQuestion, TurnQuestion, asks_head, Reading, IsTrueOver, read_run}
+use Rattle.frame_spec.specs.FrameReports.{AreOfQuestion, IsShown, Refutes, Spends, WrittenCall, shown_start}
+use Rattle.frame_spec.specs.FrameRuns.{Calling, Start}
 use Rattle.frame_spec.specs.FrameUnrolling.{IsRootOf}
 use Rattle.frame_spec.specs.FrameVerdict.{RunFails, RunTurns, Whole}
-use Rattle.frame_spec.specs.FrameWalk.{Root, UnrolledProgram, root_at}
+use Rattle.frame_spec.specs.FrameWalk.{Root, UnrolledProgram, point_at, root_at}
+use Rattle.frame_spec.proofs.Prefix.{Numbered, numbered as step_numbered}
+use Rattle.frame_laws.specs.RunOfFrame.{AsksLiterals}
 use Rattle.term_spec.specs.Terms.{TermReading}
 use Rattle.term_spec.specs.WalkQuestions.{QuestionTerm, is_asked}
 use Rattle.frame_terms.specs.FrameCells.{Cells, TellsCells}
 use Rattle.frame_terms.specs.FrameClauseForm.{MakesTrue, PartInput, TellsClauses, bit_of, input_list}
 use Rattle.frame_terms.specs.FrameLayers.{IsFitting, IsLayered}
-use Rattle.frame_terms.specs.FrameStarts.{AreCalls, AreChoices, AreParts, AreTold, GiveStarts, HasValues, IsWrittenAnchor, ShownEnds, ShownEndsAtHead, ShownEndsBy, WrittenParts, shown_of, written_content}
+use Rattle.frame_terms.specs.FrameStarts.{AreCalls, IsCallOf, AreChoices, AreParts, AreTold, GiveStarts, HasValues, IsWrittenAnchor, ShownEnds, ShownEndsAtHead, ShownEndsBy, WrittenParts, shown_of, written_content}
 use Rattle.frame_terms.specs.PassiveFrames.{IsWalkable, TellsQuestion, inputs_of, part_reading}
 use Rattle.frame_terms.proofs.FrameAsked.{frame_asked_is_right}
 use Rattle.frame_terms.proofs.FrameClauses.{frame_clauses_of_question}
@@ -43,9 +45,10 @@ use Rattle.question_form.specs.Forms.{AreRootsFormed}
 use Rattle.question_form.specs.FrameViews.{anchor_at, frame_unrolled_of}
 use Rattle.unroller.specs.RootPoints.{BeginAtOwn, IsEntryFirst}
 use Rattle.frame_start.specs.declared.meaning.Segments.{Segments}
-use Rattle.frame_start.specs.Segments.{choices_at, written_parts}
-use Rattle.frame_rounds.specs.FrameGrounds.{AreSegments, IsFrameGround, ShowsQuestion, ShowsStart, shown_at}
-use Rattle.frame_rounds.proofs.FrameRoots.{entry_anchor, head_written, no_gift, none_stepped, numbered, root_of_number}
+use Rattle.frame_start.specs.Segments.{calls_at, choices_at, written_parts}
+use Rattle.frame_rounds.specs.FrameGrounds.{AreSegments, HasCall, HasCalls, HasStepped, IsFrameGround, ShowsQuestion, ShowsStart, shown_at}
+use Rattle.frame_rounds.proofs.ListedCalls.{listed}
+use Rattle.frame_rounds.proofs.FrameRoots.{entry_anchor, head_written, gift_contract, no_gift, numbered, root_of_number}
 
 -- a byte that is known by a test is one where the test says so
 known_test : (b : Bool) (x y : ℕ) → (if b then Some x else None) ≡ Some y → b ≡ true
@@ -110,8 +113,12 @@ module _ (un : Unrolled) (question : Question) (added : List ℕ) (t : QuestionT
   fitting = record {
     registers = walkable.sized.registers;
     flags = walkable.sized.flags;
-    gift_registers = λ i n x h l. absurd (no_gift f contracts k u g.unrolling g.alone i x h);
-    gift_flags = λ i n x h l. absurd (no_gift f contracts k u g.unrolling g.alone i x h);
+    gift_registers = λ i n x h l.
+        (let is = gift_contract f contracts k u g.unrolling i x h in
+        g.fits.registers (point_at u i).point.at n is.contract is.stepped (subst (λ (z : List ℕ). Contains z n) is.registers l));
+    gift_flags = λ i n x h l.
+        (let is = gift_contract f contracts k u g.unrolling i x h in
+        g.fits.flags (point_at u i).point.at n is.contract is.stepped (subst (λ (z : List ℕ). Contains z n) is.flags l));
   }
 
   of_question : AreOfQuestion f k question cnf
@@ -144,7 +151,10 @@ module _ (un : Unrolled) (question : Question) (added : List ℕ) (t : QuestionT
       (parts_of : (x : TermReading) → HasValues u un.heads c v x → AreParts u (un.heads && asks_head question) c x (written_parts s.parts))
       (choices_of : (i : ℕ) → i < length un.roots.items → IsWrittenAnchor (un.heads && asks_head question) (anchor_at un i) →
       (x : TermReading) → HasValues u un.heads c v x → AreChoices u (un.heads && asks_head question) (layout_of un.form) x (written_parts s.parts)
-      (root_at u i) (choices_at s.choices.items i)) where
+      (root_at u i) (choices_at s.choices.items i)) (called : length s.calls.items ≡ length un.roots.items)
+      (calls_of : (i : ℕ) → i < length un.roots.items → IsWrittenAnchor (un.heads && asks_head question) (anchor_at un i) →
+      (x : TermReading) → HasValues u un.heads c v x → AreCalls u (un.heads && asks_head question) (layout_of un.form) x (written_parts s.parts)
+      (root_at u i) (calls_at u s.parts s.calls.items i)) where
     abbrev p : WrittenParts
     p = written_parts s.parts
 
@@ -173,25 +183,31 @@ module _ (un : Unrolled) (question : Question) (added : List ℕ) (t : QuestionT
         (subst (λ (b : Bool). AreChoices u (b && asks_head question) (layout_of un.form) x p (root_at u i) (choices_at s.choices.items i)) g.heads
         (choices_of i l (subst (λ (b : Bool). IsWrittenAnchor (b && asks_head question) (anchor_at un i)) (sym g.heads) h) x has))
 
-    -- no contract is spoken of, and no contract step is made
-    told : (w : Whole) → AreTold w f u
-    told w = record {
-      contracts = λ a y e. absurd (none_stepped f g.alone a y e);
-      registers = λ a n y e h. absurd (none_stepped f g.alone a y e);
-      low = λ a n y e h. absurd (none_stepped f g.alone a y e);
-    }
+    calls : (i : ℕ) → i < length un.roots.items → IsWrittenAnchor of_head (anchor_at un i) →
+        AreCalls u of_head layout x p (root_at u i) (calls_at u s.parts s.calls.items i)
+    calls i l h =
+        subst (λ (z : Layout). AreCalls u of_head z x p (root_at u i) (calls_at u s.parts s.calls.items i)) g.form
+        (subst (λ (b : Bool). AreCalls u (b && asks_head question) (layout_of un.form) x p (root_at u i) (calls_at u s.parts s.calls.items i)) g.heads
+        (calls_of i l (subst (λ (b : Bool). IsWrittenAnchor (b && asks_head question) (anchor_at un i)) (sym g.heads) h) x has))
 
-    calls : (root : Root) → AreCalls u of_head layout x p root []
-    calls root = record {
-      within = λ n d l. absurd (omega arith);
-      rise = λ i j d l m. absurd (omega arith);
-      follows = λ r of assumed step i d y at is. absurd (no_gift f contracts k u g.unrolling g.alone i y is);
-    }
+    -- where no contract is stepped over no contract step is made
+    none_called : f.stepped ≡ [] → (l : List WrittenCall) → All (IsCallOf u p) l → l ≡ []
+    none_called alone [] all = refl
+    none_called alone (y ∷ rest) all =
+        let is = all zero y (omega arith) in absurd (no_gift f contracts k u g.unrolling alone is.0 is.1 is.2)
 
-    shown : (w : Whole) (i : ℕ) → i < length un.roots.items → IsWrittenAnchor of_head (anchor_at un i) → IsShown w f layout (shown_at un s i)
-    shown w i l h =
-        frame_starts_are_shown f contracts k u g.unrolling layout laid g.steps of_head c x makes.in_range p parts w (told w) (anchor_at un i) (root_at u i)
-        (choices_at s.choices.items i) [] h (choices i l h) (calls (root_at u i))
+    none : f.stepped ≡ [] → (i : ℕ) → i < length un.roots.items → IsWrittenAnchor of_head (anchor_at un i) → calls_at u s.parts s.calls.items i ≡ []
+    none alone i l h = none_called alone (calls_at u s.parts s.calls.items i) (calls i l h).within
+
+    -- notes that have the contracts that are stepped over tell of them
+    told : (w : Whole) → HasStepped f w.contracts → AreTold w f u
+    told w has = record { contracts = has; registers = g.fits.registers; low = g.fits.low }
+
+    shown : (w : Whole) → HasStepped f w.contracts → (i : ℕ) → i < length un.roots.items → IsWrittenAnchor of_head (anchor_at un i) →
+        IsShown w f layout (shown_at un s i)
+    shown w has i l h =
+        frame_starts_are_shown f contracts k u g.unrolling layout laid g.steps of_head c x makes.in_range p parts w (told w has) (anchor_at un i) (root_at u i)
+        (choices_at s.choices.items i) (calls_at u s.parts s.calls.items i) h (choices i l h) (calls i l h)
 
     starts : GiveStarts f k question u layout x p
     starts =
@@ -201,8 +217,9 @@ module _ (un : Unrolled) (question : Question) (added : List ℕ) (t : QuestionT
     -- the start of a root that ends so
     shows_start : (Ends : Frame → ℕ → Start → Type 0) (i : ℕ) → i < length un.roots.items → IsWrittenAnchor of_head (anchor_at un i) →
         ShownEnds f k u of_head layout x p Ends (root_at u i) (anchor_at un i) → ShowsStart f k layout Ends (shown_at un s i)
-    shows_start Ends i l h ends w =
-        let q = ends w (told w) (choices_at s.choices.items i) (choices i l h) [] (calls (root_at u i)) in (shown w i l h, q.0, q.1)
+    shows_start Ends i l h ends w has =
+        let q = ends w (told w has) (choices_at s.choices.items i) (choices i l h) (calls_at u s.parts s.calls.items i) (calls i l h) in
+        (shown w has i l h, q.0, q.1)
 
     at_entry : IsWrittenAnchor of_head (anchor_at un 0)
     at_entry = subst (λ (z : Anchor). IsWrittenAnchor of_head z) (sym (entry_anchor un first)) tt
@@ -233,12 +250,12 @@ module _ (un : Unrolled) (question : Question) (added : List ℕ) (t : QuestionT
 
     -- the entry as it is written, without choices
     abbrev whole : Whole
-    whole = record { program = f.program; invariants = f.invariants; contracts = [] }
+    whole = record { program = f.program; invariants = f.invariants; contracts = f.stepped }
 
     entry_with : IsWritten layout (is_known_at f.program) (record entry { choices = choices_at s.choices.items 0 })
     entry_with =
-        (subst (λ (z : Anchor). IsShown whole f layout (shown_of p z (choices_at s.choices.items 0) [])) (entry_anchor un first)
-        (shown whole 0 first.0 at_entry)).entry
+        (subst (λ (z : Anchor). IsShown whole f layout (shown_of p z (choices_at s.choices.items 0) (calls_at u s.parts s.calls.items 0))) (entry_anchor un first)
+        (shown whole (λ a y e. e) 0 first.0 at_entry)).entry
 
     entry_written : IsWritten layout (is_known_at f.program) entry
     entry_written =
@@ -272,5 +289,42 @@ module _ (un : Unrolled) (question : Question) (added : List ℕ) (t : QuestionT
     shows_by TurnQuestion e (inl ends) = (0, first.0, entry_shows RunTurns ends)
     shows_by TurnQuestion e (inr ends) = (let h = head_shows RunTurns (ap asks_head e) ends in (h.0, h.1, h.3))
 
+    -- every known byte is asked, so those of literals too
+    literals : AsksLiterals f k (is_known_at f.program)
+    literals a i lit l = layered.asks_known (add 32 a i) (layered.asks_literals a i lit l)
+
+    -- the contract steps of a segment from the entry are listed
+    listed_by : (w : Whole) → HasStepped f w.contracts → (i : ℕ) → i < length un.roots.items → (anchor : Anchor) → anchor_at un i ≡ anchor → anchor ≡ AtEntry →
+        HasCalls f k (shown_start w f layout (shown_of p anchor (choices_at s.choices.items i) (calls_at u s.parts s.calls.items i)))
+        (calls_at u s.parts s.calls.items i)
+    listed_by w has i l AtEntry at e steps turns n d is =
+        let root = root_of_number un walkable formed own f contracts k g.unrolling i l in
+        let anchor = subst (λ (z : Anchor). IsAnchor f k z) at root.0 in
+        let of_root = subst (λ (z : Anchor). IsRootOf f u (root_at u i) z) at root.1 in
+        let shown_there : IsWrittenAnchor of_head (anchor_at un i) = subst (λ (z : Anchor). IsWrittenAnchor of_head z) (sym at) tt in
+        let made = calls i l shown_there in
+        let runs = starts.runs w (told w has) AtEntry (root_at u i) (choices_at s.choices.items i) (calls_at u s.parts s.calls.items i) anchor of_root tt tt
+        (choices i l shown_there) made steps in
+        let number : n ≡ steps =
+        subst (Numbered steps) is (step_numbered f k (shown_start w f layout (shown_of p AtEntry (choices_at s.choices.items i)
+        (calls_at u s.parts s.calls.items i))) steps) in
+        let reads : read_run f k starts.reading AtEntry steps ≡ Calling turns n d = sym runs ∙ is in
+        subst (λ (z : ℕ). HasCall f d z (calls_at u s.parts s.calls.items i)) (sym number)
+        (listed f contracts k u g.unrolling g.lawful g.low g.among literals starts.reading starts.is_true.reading starts.is_true.entry (root_at u i) of_root anchor
+        of_head layout c x p parts starts.of (calls_at u s.parts s.calls.items i) made steps turns d
+        (subst (λ (z : ℕ). read_run f k starts.reading AtEntry steps ≡ Calling turns z d) number reads))
+    listed_by w has i l (AtHead stack a) at e steps turns n d is = absurd (cc)
+
+    all_listed : (w : Whole) → HasStepped f w.contracts → (i : ℕ) → i < length un.roots.items → anchor_at un i ≡ AtEntry →
+        HasCalls f k (shown_start w f layout (shown_at un s i)) (calls_at u s.parts s.calls.items i)
+    all_listed w has i l e = listed_by w has i l (anchor_at un i) refl e
+
     pub shows : AreSegments f k layout question un s
-    shows = record { count = count; shown = shown; shows = shows_by question refl starts.ends }
+    shows = record {
+      count = count;
+      calls = called;
+      shown = shown;
+      none = none;
+      listed = all_listed;
+      shows = shows_by question refl starts.ends;
+    }

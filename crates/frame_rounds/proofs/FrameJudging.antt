@@ -156,7 +156,7 @@ module _ (added : List ℕ) (conflicts : ℕ) (c : Celled) (cnf : Cnf) (h : AreL
       (λ f contracts k layout g.
           shows un (frame_question_of c.question.now) added (term_of c.question.now) (frame_cells_of c) (cnf_of cnf) h.askable.walkable h.askable.roots
           h.askable.own h.askable.first h.askable.bytes h.added_are h.term h.cells clauses f contracts k layout g (valuation bits) sat s is.choices.count
-          is.parts (λ i l. is.choices.each i l)),
+          is.parts (λ i l. is.choices.each i l) is.calls.count (λ i l. is.calls.each i l)),
       tt,
     )
     round_judged (Answered (answer.Refuted proof)) is = absurd is

@@ -1,7 +1,6 @@
 -- The roots of an unrolled frame as a value, and their anchors.
-use Rattle.std.proofs.Common.{◌≡◌, refl, ap, sym, ◌∙◌, subst, arith, ℕ, zero, suc, ◌<◌, Bool, true, false, List, [], ◌∷◌, Option, Some, None, length}
-use Rattle.std.specs.Prelude.{◌&&◌, Contains, slice_index_or}
-use Rattle.std.specs.Global.{Vec}
+use Rattle.std.proofs.Common.{◌≡◌, refl, ap, sym, ◌∙◌, subst, arith, ℕ, ◌<◌, Bool, true, false, List, [], ◌∷◌, Option, Some, None, length}
+use Rattle.std.specs.Prelude.{◌&&◌, Contains}
 use Rattle.std.proofs.lemmas.List.{get_or_default, length-map}
 use Rattle.program_points.specs.declared.values.Root as listed
 use Rattle.program_points.specs.Listed.{anchor_of}
@@ -10,7 +9,7 @@ use Rattle.machine_spec.specs.Machine.{Row}
 use Rattle.bilv_spec.specs.Points.{file_row}
 use Rattle.frame_spec.specs.Frames.{Contract, Frame, contract_at}
 use Rattle.frame_spec.specs.FramePoints.{Anchor, AtEntry, AtHead, IsAnchor, first_of, has_heads, is_cut}
-use Rattle.frame_spec.specs.FrameWalk.{Gift, Root, UnrolledProgram, no_root, point_at, root_at}
+use Rattle.frame_spec.specs.FrameWalk.{Gift, Root, StepsOver, UnrolledProgram, no_root, point_at, root_at}
 use Rattle.frame_spec.specs.FrameUnrolling.{DoesAddress, DoesBy, DoesContract, IsRootOf, IsUnrolling}
 use Rattle.frame_spec.proofs.OfSegments.{heads}
 use Rattle.frame_laws.proofs.FrameAnswers.{head_anchor}
@@ -20,7 +19,44 @@ use Rattle.question_form.specs.declared.unrolled.Unrolled.{Unrolled}
 use Rattle.question_form.specs.Forms.{AreRootsFormed}
 use Rattle.question_form.specs.FrameViews.{anchor_at, frame_unrolled_of, root_of}
 use Rattle.unroller.specs.RootPoints.{BeginAtOwn, IsEntryFirst}
+use Rattle.frame_rounds.specs.FrameGrounds.{AreFitted, HasStepped}
 use Rattle.frame_start.proofs.ChosenSteps.{root_anchor, root_inside}
+
+-- the contract of a contract point, whose registers and flags the gift has
+pub record IsOfContract (f : Frame) (u : UnrolledProgram) (i : ℕ) (g : Gift) : Type 0 where
+  pub contract : Contract
+  pub stepped : contract_at f.stepped (point_at u i).point.at ≡ Some contract
+  pub registers : g.registers ≡ contract.registers
+  pub flags : g.flags ≡ contract.flags
+
+pub gift_contract : (f : Frame) (contracts : List Contract) (k : ℕ) (u : UnrolledProgram) → IsUnrolling f contracts k u → (i : ℕ) (g : Gift) →
+    IsGiftAt u i g → IsOfContract f u i g
+gift_contract f contracts k u un i g at =
+    by (point_at u i).point.contract (is_cut f (point_at u i).point) (un.places i at.place).does
+  where
+    of_gift : {x y : Gift} → StepsOver x ≡ StepsOver y → x ≡ y
+    of_gift e = (cc)
+
+    by_contract : (o : Option Contract) (stack : List ℕ) → contract_at f.stepped (point_at u i).point.at ≡ o →
+        DoesContract f k u i (point_at u i) o stack → IsOfContract f u i g
+    by_contract None stack e does = absurd does
+    by_contract (Some x) [] e does = absurd does
+    by_contract (Some x) (to ∷ below) e (along, does, exits, are) =
+        (let same = of_gift (sym at.does ∙ does) in record {
+          contract = x;
+          stepped = e;
+          registers = ap (λ (z : Gift). z.registers) same;
+          flags = ap (λ (z : Gift). z.flags) same;
+        })
+
+    by_address : (o : Option Row) → DoesAddress f contracts k u i (point_at u i) o → IsOfContract f u i g
+    by_address None does = absurd (let e = sym does.0 ∙ at.does in cc)
+    by_address (Some row) does = absurd (let e = sym does.3.lists.1 ∙ at.does in cc)
+
+    by : (contract cut : Bool) → DoesBy contract cut f contracts k u i (point_at u i) → IsOfContract f u i g
+    by true cut does = by_contract (contract_at f.stepped (point_at u i).point.at) (point_at u i).point.stack refl does
+    by false true does = absurd (let e = sym does.0 ∙ at.does in cc)
+    by false false does = by_address (file_row f.program (point_at u i).point.at) does
 
 -- where no contract is stepped over, none stands at an address
 pub none_stepped : (f : Frame) → f.stepped ≡ [] → (a : ℕ) (x : Contract) → ¬ (contract_at f.stepped a ≡ Some x)
@@ -30,17 +66,18 @@ none_stepped f alone a x e = let n = sym (ap (λ (z : List Contract). contract_a
 pub no_gift : (f : Frame) (contracts : List Contract) (k : ℕ) (u : UnrolledProgram) → IsUnrolling f contracts k u → f.stepped ≡ [] → (i : ℕ) (g : Gift) →
     ¬ IsGiftAt u i g
 no_gift f contracts k u un alone i g at =
-    by (point_at u i).point.contract (is_cut f (point_at u i).point) (un.places i at.place).does
-  where
-    by_address : (o : Option Row) → DoesAddress f contracts k u i (point_at u i) o → ⊥
-    by_address None does = let e = sym does.0 ∙ at.does in cc
-    by_address (Some row) does = let e = sym does.3.lists.1 ∙ at.does in cc
+    let is = gift_contract f contracts k u un i g at in none_stepped f alone (point_at u i).point.at is.contract is.stepped
 
-    by : (contract cut : Bool) → DoesBy contract cut f contracts k u i (point_at u i) → ⊥
-    by true cut does =
-        subst (λ (z : List Contract). DoesContract f k u i (point_at u i) (contract_at z (point_at u i).point.at) (point_at u i).point.stack) alone does
-    by false true does = let e = sym does.0 ∙ at.does in cc
-    by false false does = by_address (file_row f.program (point_at u i).point.at) does
+-- so that nothing is asked of contracts
+pub none_fit : (f : Frame) → f.stepped ≡ [] → (u : UnrolledProgram) → AreFitted f u
+none_fit f alone u = record {
+  registers = λ a n x e h. absurd (none_stepped f alone a x e);
+  flags = λ a n x e h. absurd (none_stepped f alone a x e);
+  low = λ a n x e h. absurd (none_stepped f alone a x e);
+}
+
+pub none_had : (f : Frame) → f.stepped ≡ [] → (contracts : List Contract) → HasStepped f contracts
+none_had f alone contracts a x e = absurd (none_stepped f alone a x e)
 
 first_anchor : (entry : ℕ) (anchor : Anchor) → (first_of entry anchor).anchor ≡ anchor
 first_anchor entry AtEntry = refl

@@ -1,5 +1,5 @@
 -- What the answer to a question of the frame of a program says of the program.
-use Rattle.std.proofs.Common.{◌≡◌, refl, sym, subst, ap, ◌∙◌, ℕ, zero, suc, ◌≤◌, ◌<◌, ◌+◌, Bool, true, false, List, [], ◌∷◌, Some, None, arith}
+use Rattle.std.proofs.Common.{◌≡◌, refl, sym, subst, ap, ◌∙◌, ℕ, zero, suc, ◌≤◌, ◌<◌, ◌+◌, Bool, true, false, List, [], ◌∷◌, None, arith}
 use Rattle.std.specs.Prelude.{◌&&◌, Contains, length, slice_index_or}
 use Rattle.std.proofs.lemmas.List.{length-map}
 use Rattle.word_spec.specs.State.{Written}
@@ -23,7 +23,7 @@ use Rattle.frame_spec.specs.FrameQuestions as frames
 use Rattle.frame_spec.specs.FrameQuestions.{asks_head}
 use Rattle.frame_spec.specs.FrameReports as reports
 use Rattle.frame_spec.specs.FrameRuns.{Start}
-use Rattle.frame_spec.specs.FrameReports.{Shown, shown_start}
+use Rattle.frame_spec.specs.FrameReports.{Shown, WrittenCall, shown_start}
 use Rattle.frame_spec.specs.FrameUnrolling.{IsUnrolling}
 use Rattle.frame_spec.specs.FrameVerdict as ends
 use Rattle.frame_spec.specs.FrameWalk.{UnrolledProgram}
@@ -66,7 +66,7 @@ use Rattle.frame_rounds.specs.FrameRounds.{IsFrameDecided}
 use Rattle.frame_rounds.specs.declared.answers.FrameAnswered.{FrameAnswered}
 use Rattle.frame_rounds.specs.declared.answers.FrameAnswered.TheVariants as answer
 use Rattle.frame_rounds.specs.declared.answers.FrameDecided.{FrameDecided}
-use Rattle.frame_rounds.proofs.FrameRoots.{entry_anchor}
+use Rattle.frame_rounds.proofs.FrameRoots.{entry_anchor, none_fit, none_had}
 use Rattle.verdict.specs.Grounds.{HasRunOf, IsAnsweredOver, IsGround, RefutesOver}
 use Rattle.verdict.specs.Measures.{IsMeasurable}
 use Rattle.verdict.specs.Rounds.{AreAdded, HasBytes, IsAskable, IsDecidable, IsDecided, IsTold, entry_shown}
@@ -117,7 +117,7 @@ module _ (u : Unrolled) (h : IsHeadless u) where
       reads = reads;
       low = λ a e. absurd (let t : true ≡ false = sym e ∙ no_head p a in cc);
       among = record { stepped = λ a x e. absurd (cc); places = λ n. absurd (n refl); own = λ x e. absurd (cc) };
-      alone = refl;
+      fits = none_fit f refl (frame_unrolled_of u);
       unrolling = subst (λ (z : UnrolledProgram). IsUnrolling f [] k z) (sym (headless_values u h))
           (((headless_unrolling p k).0 (unrolled_of u)).0 g.unrolling);
       heads = h.heads ∙ sym (headless_heads p);
@@ -151,32 +151,39 @@ module _ (u : Unrolled) (h : IsHeadless u) where
       abbrev its : Shown
       its = shown_of (written_parts s.parts) AtEntry (entry_shown s).choices []
 
-      shown_is : shown_at u s 0 ≡ its
-      shown_is = ap (λ (z : Anchor). shown_of (written_parts s.parts) z (entry_shown s).choices []) (entry_anchor u first_is)
+      at_entry : (question : frames.Question) → IsWrittenAnchor (has_heads f && asks_head question) (anchor_at u 0)
+      at_entry question = subst (λ (z : Anchor). IsWrittenAnchor (has_heads f && asks_head question) z) (sym (entry_anchor u first_is)) tt
+
+      shown_is : (question : frames.Question) → AreSegments f k own_form question u s → shown_at u s 0 ≡ its
+      shown_is question is =
+          ap (λ (l : List WrittenCall). shown_of (written_parts s.parts) (anchor_at u 0) (entry_shown s).choices l)
+          (is.none refl 0 first_is.0 (at_entry question))
+          ∙ ap (λ (z : Anchor). shown_of (written_parts s.parts) z (entry_shown s).choices []) (entry_anchor u first_is)
 
       abbrev start : Start
       start = shown_start (headless_whole p) f own_form its
 
       written : (question : frames.Question) → AreSegments f k own_form question u s → IsWritten own_form (is_known_at p) (entry_shown s)
       written question is =
-          (subst (λ (z : Shown). reports.IsShown (headless_whole p) f own_form z) shown_is
-          (is.shown (headless_whole p) 0 first_is.0
-          (subst (λ (z : Anchor). IsWrittenAnchor (has_heads f && asks_head question) z) (sym (entry_anchor u first_is)) tt))).entry
+          (subst (λ (z : Shown). reports.IsShown (headless_whole p) f own_form z) (shown_is question is)
+          (is.shown (headless_whole p) (none_had f refl []) 0 first_is.0 (at_entry question))).entry
 
       -- the start of the first root ends so
-      at_first : (Ends : Frame → ℕ → Start → Type 0) → ShowsStart f k own_form Ends (shown_at u s 0) → ends.IsStart f k start × Ends f k start
-      at_first Ends shows = let q = subst (ShowsStart f k own_form Ends) shown_is shows (headless_whole p) in (q.1, q.2)
+      at_first : (Ends : Frame → ℕ → Start → Type 0) (question : frames.Question) → AreSegments f k own_form question u s →
+          ShowsStart f k own_form Ends (shown_at u s 0) → ends.IsStart f k start × Ends f k start
+      at_first Ends question is shows =
+          let q = subst (ShowsStart f k own_form Ends) (shown_is question is) shows (headless_whole p) (none_had f refl []) in (q.1, q.2)
 
       turns_to : ends.RunTurns f k start → RunTurns p k (start_in p own_form (entry_shown s))
       turns_to r = (r.0, r.1, r.2, turned (tables.run p k (as_start start) r.0) r.1 r.2 (sym (run_is p k start refl r.0) ∙ r.3))
 
       has_run : (question : Question) → AreSegments f k own_form (as_question question) u s → HasRunOf p k question (start_in p own_form (entry_shown s))
       has_run EntryQuestion is = is.shows.1
-      has_run FailQuestion is = let q = at_first ends.RunFails is.shows.1 in (was_start p k start q.0, fails_to p k start q.0 q.1)
+      has_run FailQuestion is = let q = at_first ends.RunFails (as_question FailQuestion) is is.shows.1 in (was_start p k start q.0, fails_to p k start q.0 q.1)
       has_run TurnQuestion is =
           let inside : is.shows.0 < 1 = subst (λ (n : ℕ). is.shows.0 < n) one_root is.shows.1 in
           let first : is.shows.0 ≡ 0 = omega arith in
-          let q = at_first ends.RunTurns (subst (λ (n : ℕ). ShowsStart f k own_form ends.RunTurns (shown_at u s n)) first is.shows.2) in
+          let q = at_first ends.RunTurns (as_question TurnQuestion) is (subst (λ (n : ℕ). ShowsStart f k own_form ends.RunTurns (shown_at u s n)) first is.shows.2) in
           (was_start p k start q.0, turns_to q.1)
 
     -- ---- the answer
