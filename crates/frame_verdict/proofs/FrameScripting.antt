@@ -1,6 +1,6 @@
 -- What the script of a question says of the frame of a function.
-use Rattle.std.proofs.Common.{◌≡◌, ℕ, Bool, List, [], sym, subst, map}
-use Rattle.bilv_spec.specs.Run.{Program}
+use Rattle.std.proofs.Common.{◌≡◌, ℕ, Bool, List, sym, subst, map}
+use Rattle.frame_spec.specs.Frames.{Contract, Frame}
 use Rattle.call_form.specs.declared.kind.Asked.{Asked}
 use Rattle.frame_spec.specs.FramePoints.{has_heads}
 use Rattle.frame_spec.specs.FrameQuestions.{Question}
@@ -18,7 +18,6 @@ use Rattle.smtlib_print.proofs.Framed.{script_of_frame}
 use Rattle.smtlib_print.specs.FrameTold.{TellsFrameScript}
 use Rattle.smtlib_print.specs.Numbered.{AreOnce}
 use Rattle.start_value.specs.Starts.{layout_of}
-use Rattle.table_run.specs.FrameEnds.{frame_of}
 use Rattle.frame_rounds.specs.FrameGrounds.{IsFrameGround}
 use Rattle.frame_verdict.specs.FrameMeasures.{IsFrameMeasurable}
 
@@ -64,10 +63,9 @@ module _ (u : Unrolled) (q : Passive) (of : q.unrolled.now ≡ u) where
   told_of question text told = subst (λ (z : Unrolled). Tells z question text) of told
 
 -- a script over the unrolled frame of a frame is one of the frame
-pub script_is : (p : Program) (invariants : List ℕ) (k : ℕ) (layout : Layout) (u : Unrolled) → IsFrameGround (frame_of p invariants) [] k layout u →
-    (question : Question) (text : List ℕ) → Tells u question text → IsFrameScript (frame_of p invariants) layout k question text
-script_is p invariants k layout u ground question text told =
-    let f = frame_of p invariants in
-    script_of_frame f ground.lawful ground.low [] ground.among k (frame_unrolled_of u) ground.unrolling layout question text
+pub script_is : (f : Frame) (contracts : List Contract) (k : ℕ) (layout : Layout) (u : Unrolled) → IsFrameGround f contracts k layout u →
+    (question : Question) (text : List ℕ) → Tells u question text → IsFrameScript f layout k question text
+script_is f contracts k layout u ground question text told =
+    script_of_frame f ground.lawful ground.low contracts ground.among k (frame_unrolled_of u) ground.unrolling layout question text
     (subst (λ (l : Layout). TellsFrameScript (frame_unrolled_of u) (has_heads f) l question text) ground.form
     (subst (λ (h : Bool). TellsFrameScript (frame_unrolled_of u) h (layout_of u.form) question text) ground.heads told))

@@ -1,10 +1,22 @@
 pub mod StackTops
+pub mod SegmentParts
 pub mod HeadStates
 pub mod Wholes
+pub mod RankedParts
 pub mod RefutedFrames
-pub mod SegmentRuns
-pub mod FrameReporting
+pub mod RowPlaces
+pub mod Unheaded
+pub mod EndedRuns
+pub mod MadeCauses
+pub mod CalledEnds
+pub mod CameTo
+pub mod CalledWholes
+pub mod Judging
+pub mod RightReports
+pub mod RankedVerdicts
+pub mod Ready
 pub mod Trying
 pub mod Grounding
+pub mod Measured
 mod Satisfied
 pub mod FrameScripting

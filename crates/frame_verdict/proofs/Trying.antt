@@ -1,47 +1,57 @@
--- What is shown of a root is a start whose segment ends as a question asks, or not.
-use Rattle.std.proofs.Common.{◌≡◌, ◌≢◌, refl, sym, ap, subst, ◌∙◌, ℕ, ◌-◌, ◌<◌, ◌≤◌, Bool, true, false, List, [], Option, Some, None, length, get_or, arith}
-use Rattle.std.specs.Prelude.{◌&&◌, option_map}
-use Rattle.std.proofs.lemmas.List.{get_or_default, reverse-reverse}
+-- What is shown of a root of the frame of a rank is a start whose segment ends as a question asks, or not.
+use Rattle.std.proofs.Common.{◌≡◌, ◌≢◌, refl, sym, ap, subst, ◌∙◌, ℕ, ◌-◌, ◌<◌, ◌≤◌, Bool, true, false, List, [], ◌∷◌, Option, Some, None, length, map, get_or}
+use Rattle.std.specs.Prelude.{◌&&◌, option_map, slice_get}
+use Rattle.std.proofs.lemmas.List.{get_or_default, length-map, reverse-reverse}
 use Rattle.word_spec.specs.State.{State}
 use Rattle.bilv_spec.specs.Points.{is_known_at, is_kept_at}
-use Rattle.bilv_spec.specs.Run.{Program, Place}
+use Rattle.bilv_spec.specs.Run.{Place}
 use Rattle.bilv_spec.specs.Verdict.{IsEntryState}
+use Rattle.machine_spec.specs.Machine.{Machine}
 use Rattle.machine_spec.specs.StateText.{Layout, IsWritten}
-use Rattle.frame_spec.specs.Frames.{Frame, IsContent, is_head}
-use Rattle.frame_spec.specs.FrameFound.{Found, FoundExit, FoundEvent, FoundTurn, FoundCut, FoundBreak, FoundLeft, found}
-use Rattle.frame_spec.specs.FrameLaws.{HasPlaces}
-use Rattle.frame_spec.specs.FramePoints.{Anchor, AtEntry, AtHead, HasMore, IsAnchor, first_of, has_heads}
+use Rattle.frame_spec.specs.Frames.{Contract, Frame, IsContent, is_head}
+use Rattle.frame_spec.specs.FrameFound.{found}
+use Rattle.frame_spec.specs.FramePoints as frames
+use Rattle.frame_spec.specs.FramePoints.{Anchor, AtEntry, AtHead, IsAnchor, first_of, has_heads}
 use Rattle.frame_spec.specs.FrameQuestions.{Question, EntryQuestion, FailQuestion, StepQuestion, TurnQuestion, asks_head}
 use Rattle.frame_spec.specs.FrameReports as reports
-use Rattle.frame_spec.specs.FrameReports.{IsShown, WrittenHead, head_of, shown_start, EndsAs, ByEvent, ByTurn}
+use Rattle.frame_spec.specs.FrameReports.{IsShown, Named, WrittenCall, WrittenHead, head_of, registers_of, shown_start}
 use Rattle.frame_spec.specs.FrameRuns as runs
-use Rattle.frame_spec.specs.FrameRuns.{Run, Failed, Turned, Broken, IsOver, run}
-use Rattle.frame_spec.specs.FrameVerdict.{IsOrigin, IsStart, Whole}
-use Rattle.frame_spec.proofs.OneEnd.{one_end}
+use Rattle.frame_spec.specs.FrameRuns.{IsOver, run}
+use Rattle.frame_spec.specs.FrameVerdict.{IsOrigin, Whole, frame_by, frame_of}
+use Rattle.frame_laws.proofs.FewSteps.{few_points_end_segments, wholes_are_few}
 use Rattle.frame_laws.proofs.FrameAnswers.{head_anchor}
 use Rattle.frame_terms.specs.FrameStarts as starts
 use Rattle.frame_terms.specs.FrameStarts.{IsWrittenAnchor, WrittenParts}
+use Rattle.frame_terms.proofs.WrittenGifts.{gifts_small}
+use Rattle.call_form.specs.declared.budget.Budget.{Budget}
 use Rattle.question_form.specs.Asked.{frame_question}
 use Rattle.program_points.specs.Listed.{anchor_of}
 use Rattle.program_points.specs.Tables.{stacks_of}
-use Rattle.question_form.specs.FrameViews.{anchor_at, no_root}
+use Rattle.question_form.specs.FrameViews.{anchor_at, frame_unrolled_of, no_root}
 use Rattle.call_form.specs.declared.kind.Asked.{Asked}
 use Rattle.call_form.specs.declared.kind.Asked.TheVariants as asked
 use Rattle.question_form.specs.declared.unrolled.Root.{Root}
 use Rattle.question_form.specs.declared.unrolled.Unrolled.{Unrolled}
-use Rattle.start_value.specs.Starts.{written_of}
-use Rattle.state_text.specs.Starts.{written_head_of}
-use Rattle.state_text.specs.declared.start.HeadStart.{HeadStart}
-use Rattle.table_run.specs.FrameEnds.{frame_found_of, frame_of, whole_of}
-use Rattle.table_run.specs.declared.ending.FrameEnding.{FrameEnding}
-use Rattle.frame_rounds.specs.FrameGrounds.{AreSegments, IsFrameGround, ShowsQuestion, shown_at}
-use Rattle.frame_start.specs.declared.meaning.Segments.{Segments}
-use Rattle.frame_start.specs.Segments.{choices_at, written_parts}
-use Rattle.frame_rounds.proofs.FrameRoots.{root_of_number, head_written}
+use Rattle.notes_value.specs.FrameViews.{contract_of}
 use Rattle.frame_verdict.specs.FrameMeasures.{IsFrameMeasurable}
-use Rattle.frame_verdict.specs.ShownEnds.{Ends, EndsAsAsked, HasHead, IsEndOf, IsEnded, IsHeadFor, IsHeadWritten, is_end, shown_of, start_of, wants_anchor}
+use Rattle.state_text.specs.declared.start.CallState.{CallState}
+use Rattle.start_value.specs.Starts.{written_of}
+use Rattle.state_text.specs.Starts.{written_call_of, written_head_of}
+use Rattle.state_text.specs.declared.start.HeadStart.{HeadStart}
+use Rattle.table_run.specs.FrameEnds as plain
+use Rattle.table_run.specs.MadeCalls.{AreListed}
+use Rattle.frame_rounds.specs.FrameGrounds.{AreSegments, HasStepped, IsFrameGround, ShowsQuestion, shown_at}
+use Rattle.frame_start.specs.declared.meaning.Segments.{Segments}
+use Rattle.frame_start.specs.Segments.{calls_at, choices_at, written_parts}
+use Rattle.frame_rounds.proofs.FrameRoots.{root_of_number, head_written}
+use Rattle.frame_verdict.specs.FrameFunctions.{IsReady, contracts_of, frame_at, program_of_framed, whole_of_framed}
+use Rattle.frame_verdict.specs.FrameVerdicts.{named_of}
+use Rattle.frame_verdict.specs.ShownEnds.{CanEnd, Ends, EndsAsAsked, HasHead, IsCame, IsEnded, IsHeadFor, IsHeadWritten, begun, is_end, named_in, shown_of, wants_anchor}
+use Rattle.frame_verdict.specs.declared.framed.Framed.{Framed}
+use Rattle.frame_verdict.specs.declared.judged.Ended.{Ended}
 use Rattle.frame_verdict.specs.declared.segments.Shown.{Shown}
-use Rattle.frame_verdict.proofs.SegmentRuns.{fails_found, found_event, found_turn, turns_found}
+use Rattle.frame_verdict.proofs.EndedRuns.{end_named, ends_as, fails_named, found_is, turns_named, unbroken}
+use Rattle.frame_verdict.proofs.Unheaded.{invariants_same, no_head, none_stepped_by}
 use Rattle.verdict.proofs.Judging.{written_choice}
 
 -- a question that asks for segments of a head speaks of head states
@@ -56,195 +66,296 @@ head_of_origin : (f : Frame) (k : ℕ) (entry : State) (o : Option Place) → Is
 head_of_origin f k entry None h = tt
 head_of_origin f k entry (Some c) h = h.1
 
-module _ (p : Program) (invariants : List ℕ) (k : ℕ) (layout : Layout) where
-  abbrev f : Frame
-  f = frame_of p invariants
+-- ---- frames of ranks have the heads and the kept bytes of the program
 
+module _ (w : Whole) (rank : ℕ) where
+  head_by : (o : Option Contract) (a : ℕ) → is_head (frame_by w rank o) a ≡ is_head (plain.frame_of w.program w.invariants) a
+  head_by None a = refl
+  head_by (Some x) a = refl
+
+  kept_by : (o : Option Contract) → is_kept_at (frame_by w rank o).program ≡ is_kept_at w.program
+  kept_by None = refl
+  kept_by (Some x) = refl
+
+  pub heads_same : (a : ℕ) → is_head (frame_of w rank) a ≡ is_head (plain.frame_of w.program w.invariants) a
+  heads_same a = head_by (slice_get w.contracts rank) a
+
+  pub kept_same : is_kept_at (frame_of w rank).program ≡ is_kept_at w.program
+  kept_same = kept_by (slice_get w.contracts rank)
+
+-- a segment that is shown, of an anchor
+module _ (w : Whole) (f : Frame) (k : ℕ) (layout : Layout) (parts : WrittenParts) (choices : List (ℕ × ℕ)) (calls : List WrittenCall) where
+  abbrev at : Anchor → runs.Start
+  at a = shown_start w f layout (starts.shown_of parts a choices calls)
+
+  -- its head state is at a head
+  head_there : (a : Anchor) → IsAnchor f k a → (h : WrittenHead) → (starts.shown_of parts a choices calls).head ≡ Some h → is_head f h.at ≡ true
+  head_there AtEntry is h e = absurd (cc)
+  head_there (AtHead stack b) is h e =
+      let same : b ≡ h.at = cc in subst (λ z. is_head f z ≡ true) same (head_anchor f k (first_of f.program.entry (AtHead stack b)) is)
+
+  -- and so it begins in one
+  origin_is : (a : Anchor) → IsAnchor f k a → IsHeadFor f (at a).state (at a).head → IsOrigin f k (at a).state (at a).head
+  origin_is AtEntry is h = tt
+  origin_is (AtHead stack b) is h = (subst (λ (z : List ℕ). IsAnchor f k (AtHead z b)) (sym (reverse-reverse stack)) is, h)
+
+  choices_few : (a : Anchor) → IsShown w f layout (starts.shown_of parts a choices calls) → (n : ℕ) → (at a).choices n < 4
+  choices_few AtEntry shown n = written_choice layout (is_known_at f.program) _ shown.entry n
+  choices_few (AtHead stack b) shown n = written_choice layout (is_kept_at f.program) _ (shown.head _ refl) n
+
+  state_at : (a : Anchor) → (at a).state ≡ (at AtEntry).state
+  state_at AtEntry = refl
+  state_at (AtHead stack b) = refl
+
+  has_head : (a : Anchor) (q : Question) (o : Option HeadStart) → wants_anchor q a ≡ true →
+      option_map written_head_of o ≡ (starts.shown_of parts a choices calls).head → HasHead q o
+  has_head AtEntry EntryQuestion o wanted e = absurd (cc)
+  has_head (AtHead stack b) EntryQuestion o wanted e = absurd (cc)
+  has_head AtEntry FailQuestion None wanted e = refl
+  has_head AtEntry FailQuestion (Some h) wanted e = absurd (cc)
+  has_head (AtHead stack b) FailQuestion o wanted e = absurd (cc)
+  has_head AtEntry StepQuestion o wanted e = absurd (cc)
+  has_head (AtHead stack b) StepQuestion None wanted e = absurd (cc)
+  has_head (AtHead stack b) StepQuestion (Some h) wanted e = λ q. cc
+  has_head a TurnQuestion o wanted e = tt
+
+  no_written_head : (a : Anchor) → a ≡ AtEntry → (o : Option HeadStart) → option_map written_head_of o ≡ (starts.shown_of parts a choices calls).head → o ≡ None
+  no_written_head AtEntry e None h = refl
+  no_written_head AtEntry e (Some x) h = absurd (cc)
+  no_written_head (AtHead stack b) e o h = absurd (cc)
+
+-- the state at entry is the same for all segments
+state_same : (w : Whole) (f : Frame) (k : ℕ) (layout : Layout) (parts : WrittenParts) (a b : Anchor) (xs ys : List (ℕ × ℕ)) (cs ds : List WrittenCall) →
+    (at w f k layout parts xs cs a).state ≡ (at w f k layout parts ys ds b).state
+state_same w f k layout parts a b xs ys cs ds = state_at w f k layout parts xs cs a ∙ sym (state_at w f k layout parts ys ds b)
+
+module _ (m : Machine) (form : Layout) (x : Framed) (b : Budget) (rank : ℕ) (u : Unrolled) (ready : IsReady m form x b rank u) (question : Question)
+    (s : Segments) (segments : AreSegments (frame_at m x rank) b.unroll form question u s) (i : ℕ) (inside : i < length u.roots.items)
+    (wanted : wants_anchor question (anchor_at u i) ≡ true) where
   abbrev w : Whole
-  w = whole_of p invariants
+  w = whole_of_framed m x
 
-  -- a segment that is shown, of an anchor
-  module _ (parts : WrittenParts) (choices : List (ℕ × ℕ)) where
-    abbrev begun : Anchor → runs.Start
-    begun a = shown_start w f layout (starts.shown_of parts a choices [])
+  abbrev f : Frame
+  f = frame_at m x rank
 
-    -- its head state is at a head
-    head_there : (a : Anchor) → IsAnchor f k a → (h : WrittenHead) → (starts.shown_of parts a choices []).head ≡ Some h → is_head f h.at ≡ true
-    head_there AtEntry is h e = absurd (cc)
-    head_there (AtHead stack b) is h e =
-        let same : b ≡ h.at = cc in subst (λ z. is_head f z ≡ true) same (head_anchor f k (first_of f.program.entry (AtHead stack b)) is)
+  abbrev k : ℕ
+  k = b.unroll
 
-    -- and so it begins in one
-    origin_is : (a : Anchor) → IsAnchor f k a → IsHeadFor f (begun a).state (begun a).head → IsOrigin f k (begun a).state (begun a).head
-    origin_is AtEntry is h = tt
-    origin_is (AtHead stack b) is h = (subst (λ (z : List ℕ). IsAnchor f k (AtHead z b)) (sym (reverse-reverse stack)) is, h)
+  abbrev ground : IsFrameGround f (contracts_of x) k form u
+  ground = ready.unrolled.ground
 
-    choices_few : (a : Anchor) → IsShown w f layout (starts.shown_of parts a choices []) → (n : ℕ) → (begun a).choices n < 4
-    choices_few AtEntry shown n = written_choice layout (is_known_at p) _ shown.entry n
-    choices_few (AtHead stack b) shown n = written_choice layout (is_kept_at p) _ (shown.head _ refl) n
+  abbrev choices : List (ℕ × ℕ)
+  choices = choices_at s.choices.items i
 
-    head_by : (a : Anchor) (q : Question) (o : Option HeadStart) → wants_anchor q a ≡ true →
-        option_map written_head_of o ≡ (starts.shown_of parts a choices []).head → HasHead q o
-    head_by AtEntry EntryQuestion o wanted e = absurd (cc)
-    head_by (AtHead stack b) EntryQuestion o wanted e = absurd (cc)
-    head_by AtEntry FailQuestion None wanted e = refl
-    head_by AtEntry FailQuestion (Some h) wanted e = absurd (cc)
-    head_by (AtHead stack b) FailQuestion o wanted e = absurd (cc)
-    head_by AtEntry StepQuestion o wanted e = absurd (cc)
-    head_by (AtHead stack b) StepQuestion None wanted e = absurd (cc)
-    head_by (AtHead stack b) StepQuestion (Some h) wanted e = λ q. cc
-    head_by a TurnQuestion o wanted e = tt
+  abbrev calls : List WrittenCall
+  calls = calls_at (frame_unrolled_of u) s.parts s.calls.items i
 
-  -- the state at entry is the same for all segments
-  state_same : (parts : WrittenParts) (a b : Anchor) (xs ys : List (ℕ × ℕ)) → (begun parts xs a).state ≡ (begun parts ys b).state
-  state_same parts AtEntry AtEntry xs ys = refl
-  state_same parts AtEntry (AtHead stack at) xs ys = refl
-  state_same parts (AtHead stack at) AtEntry xs ys = refl
-  state_same parts (AtHead stack at) (AtHead more to) xs ys = refl
+  abbrev its : runs.Start
+  its = begun w rank form (shown_at u s i)
 
-  module _ (question : Question) (u : Unrolled) (s : Segments) (i : ℕ) (ground : IsFrameGround f [] k layout u) (measurable : IsFrameMeasurable u)
-      (segments : AreSegments f k layout question u s) (inside : i < length u.roots.items) (wanted : wants_anchor question (anchor_at u i) ≡ true) where
-    abbrev its : runs.Start
-    its = shown_start w f layout (shown_at u s i)
+  abbrev measured : IsFrameMeasurable u
+  measured = ready.unrolled.measurable
 
-    anchor : IsAnchor f k (anchor_at u i)
-    anchor = (root_of_number u measurable.walkable measurable.roots measurable.own f [] k ground.unrolling i inside).0
+  has : HasStepped f w.contracts
+  has = ground.among.stepped
 
-    written_by : (a : Anchor) → a ≡ anchor_at u i → wants_anchor question a ≡ true → IsWrittenAnchor (has_heads f && asks_head question) (anchor_at u i)
-    written_by AtEntry e h = subst (λ (z : Anchor). IsWrittenAnchor (has_heads f && asks_head question) z) e tt
-    written_by (AtHead stack b) e h =
-        head_written u measurable.walkable measurable.roots measurable.own f [] k ground.unrolling (asks_head question) (speaks question stack b h) stack b i
-        inside e
+  anchor : IsAnchor f k (anchor_at u i)
+  anchor = (root_of_number u measured.walkable measured.roots measured.own f (contracts_of x) k ground.unrolling i inside).0
 
-    shown : IsShown w f layout (shown_at u s i)
-    shown = segments.shown w i inside (written_by (anchor_at u i) refl wanted)
+  written_by : (a : Anchor) → a ≡ anchor_at u i → wants_anchor question a ≡ true → IsWrittenAnchor (has_heads f && asks_head question) (anchor_at u i)
+  written_by AtEntry e h = subst (λ (z : Anchor). IsWrittenAnchor (has_heads f && asks_head question) z) e tt
+  written_by (AtHead stack a) e h =
+      head_written u measured.walkable measured.roots measured.own f (contracts_of x) k ground.unrolling (asks_head question) (speaks question stack a h) stack a i
+      inside e
 
-    entry_by : (q : Question) → ShowsQuestion f k layout u s q → wants_anchor q (anchor_at u i) ≡ true → IsEntryState p its.state
-    entry_by EntryQuestion h want = absurd (none_wanted (anchor_at u i) want)
-      where
-        none_wanted : (a : Anchor) → wants_anchor EntryQuestion a ≡ true → ⊥
-        none_wanted a h = cc
-    entry_by FailQuestion h want =
-        subst (IsEntryState p) (state_same (written_parts s.parts) (anchor_at u 0) (anchor_at u i) (choices_at s.choices.items 0)
-        (choices_at s.choices.items i)) (h.1 w).1.entry
-    entry_by StepQuestion h want =
-        subst (IsEntryState p) (state_same (written_parts s.parts) (anchor_at u h.0) (anchor_at u i)
-        (choices_at s.choices.items h.0) (choices_at s.choices.items i)) (h.2 w).1.entry
-    entry_by TurnQuestion h want =
-        subst (IsEntryState p) (state_same (written_parts s.parts) (anchor_at u h.0) (anchor_at u i)
-        (choices_at s.choices.items h.0) (choices_at s.choices.items i)) (h.2 w).1.entry
+  shown : IsShown w f form (shown_at u s i)
+  shown = segments.shown w has i inside (written_by (anchor_at u i) refl wanted)
 
-    given_is : (a : Anchor) (n : ℕ) → IsContent ((begun (written_parts s.parts) (choices_at s.choices.items i) a).given n)
-    given_is AtEntry n = record { regs = λ r. omega arith; flags = λ g. omega arith; mem = λ a. omega arith }
-    given_is (AtHead stack b) n = record { regs = λ r. omega arith; flags = λ g. omega arith; mem = λ a. omega arith }
+  entry_by : (q : Question) → ShowsQuestion f k form u s q → wants_anchor q (anchor_at u i) ≡ true → IsEntryState f.program its.state
+  entry_by EntryQuestion h want = absurd (none_wanted (anchor_at u i) want)
+    where
+      none_wanted : (a : Anchor) → wants_anchor EntryQuestion a ≡ true → ⊥
+      none_wanted a h = cc
+  entry_by FailQuestion h want =
+      subst (IsEntryState f.program) (state_same w f k form (written_parts s.parts) (anchor_at u 0) (anchor_at u i) (choices_at s.choices.items 0) choices
+      (calls_at (frame_unrolled_of u) s.parts s.calls.items 0) calls) (h.1 w has).1.entry
+  entry_by StepQuestion h want =
+      subst (IsEntryState f.program) (state_same w f k form (written_parts s.parts) (anchor_at u h.0) (anchor_at u i) (choices_at s.choices.items h.0) choices
+      (calls_at (frame_unrolled_of u) s.parts s.calls.items h.0) calls) (h.2 w has).1.entry
+  entry_by TurnQuestion h want =
+      subst (IsEntryState f.program) (state_same w f k form (written_parts s.parts) (anchor_at u h.0) (anchor_at u i) (choices_at s.choices.items h.0) choices
+      (calls_at (frame_unrolled_of u) s.parts s.calls.items h.0) calls) (h.2 w has).1.entry
 
-    -- it is a start where it begins in a head state and its run ends by an event or a backward transfer too many
-    start_if : IsHeadFor f its.state its.head → (n : ℕ) (z : Run) → IsOver z → run f k its n ≡ z → ((line at m : ℕ) → z ≢ Broken line at m) → IsStart f k its
-    start_if h n z over e not = record {
-      entry = entry_by question segments.shows wanted;
-      origin = origin_is (written_parts s.parts) (choices_at s.choices.items i) (anchor_at u i) anchor h;
-      choices = choices_few (written_parts s.parts) (choices_at s.choices.items i) (anchor_at u i) shown;
-      given = given_is (anchor_at u i);
-      is_run = λ b. not b.1 b.2 b.3 (one_end f k its n b.0 z (Broken b.1 b.2 b.3) over tt e b.4);
+  entry : IsEntryState f.program its.state
+  entry = entry_by question segments.shows wanted
+
+  few : ¬ frames.HasMore f k b.points
+  few = wholes_are_few w k b.points rank (subst (λ (n : ℕ). rank ≤ n) (sym (length_map x)) ready.ranked) ready.within.points
+    where
+      length_map : (x : Framed) → length (contracts_of x) ≡ length x.contracts.now
+      length_map x = length-map x.contracts.now contract_of
+
+  -- what contract steps are given, in a start that can be written
+  given_is : (z : reports.Shown) → IsShown w f form z → (n : ℕ) → IsContent ((shown_start w f form z).given n)
+  given_is z is n = gifts_small (registers_of w) z.calls (λ j d l. record { words = (is.calls j d l).words; bytes = (is.calls j d l).bytes }) n
+
+  -- the run has ended after as many steps as there may be points
+  over : IsHeadFor f its.state its.head → IsOver (run f k its b.points)
+  over h =
+      few_points_end_segments f ground.lawful ground.reads ready.unrolled.places k its entry
+      (origin_is w f k form (written_parts s.parts) choices calls (anchor_at u i) anchor h) (given_is (shown_at u s i) shown) b.points few
+
+  -- with contracts it begins at the entry
+  at_entry : x.contracts.now ≢ [] → anchor_at u i ≡ AtEntry
+  at_entry some = by (anchor_at u i) refl
+    where
+      by : (a : Anchor) → anchor_at u i ≡ a → anchor_at u i ≡ AtEntry
+      by AtEntry e = e
+      by (AtHead stack a) e =
+          let head = head_anchor f k (first_of f.program.entry (AtHead stack a)) (subst (λ (z : Anchor). IsAnchor f k z) e anchor) in
+          let none = no_head f (invariants_same w rank ∙ ready.runs.alone some) a in
+          let z : true ≡ false = sym head ∙ none in absurd (cc)
+
+  no_contracts : x.contracts.now ≡ [] → w.contracts ≡ []
+  no_contracts e = ap (map contract_of) e
+
+  listed_by : anchor_at u i ≡ AtEntry → AreListed f k its calls b.points
+  listed_by e steps turns n c less is quiet =
+      let it = segments.listed w has i inside e steps turns n c is in
+      record { call = it.call; listed = it.listed; step = it.step; at = it.at; flags = it.flags }
+
+  -- what is shown of the root
+  module _ (sh : Shown) (same : shown_of sh ≡ shown_at u s i) where
+    heads_by : (o : Option HeadStart) → option_map written_head_of o ≡ (shown_at u s i).head → IsHeadWritten (program_of_framed m x) x.invariants.now form o
+    heads_by None e = tt
+    heads_by (Some h) e = (
+      subst (λ (kept : ℕ → Bool). IsWritten form kept (written_of h.start)) (kept_same w rank) (shown.head (written_head_of h) (sym e)),
+      sym (heads_same w rank h.at)
+          ∙ head_there w f k form (written_parts s.parts) choices calls (anchor_at u i) anchor (written_head_of h) (sym e),
+    )
+
+    pub can_end : CanEnd m form x b rank sh
+    can_end = record {
+      shown = subst (λ (z : reports.Shown). IsShown w f form z) (sym same) shown;
+      head = heads_by sh.head (ap (λ (z : reports.Shown). z.head) same);
+      alone = λ some. no_written_head w f k form (written_parts s.parts) choices calls (anchor_at u i) (at_entry some) sh.head
+          (ap (λ (z : reports.Shown). z.head) same);
+      none = λ e. none_listed sh.calls.items (ap (λ (z : reports.Shown). z.calls) same
+          ∙ calls_same (anchor_at u i)
+          ∙ segments.none (none_stepped_by w rank (no_contracts e)) i inside (written_by (anchor_at u i) refl wanted));
+      listed = λ some. subst (λ (z : reports.Shown). AreListed f k (begun w rank form z) z.calls b.points) (sym same)
+          (subst (λ (l : List WrittenCall). AreListed f k its l b.points) (sym (calls_same (anchor_at u i))) (listed_by (at_entry some)));
+      over = subst (λ (z : reports.Shown). IsHeadFor f (begun w rank form z).state (begun w rank form z).head → IsOver (run f k (begun w rank form z) b.points))
+          (sym same) over;
     }
+      where
+        calls_same : (a : Anchor) → (starts.shown_of (written_parts s.parts) a choices calls).calls ≡ calls
+        calls_same AtEntry = refl
+        calls_same (AtHead stack a) = refl
 
-    start_by : (last : ℕ) (r : Found) (q : Question) → is_end q r ≡ true → r ≡ found f (Some k) its last → IsHeadFor f its.state its.head → IsStart f k its
-    start_by last (FoundEvent e at n) q is same h =
-        let end = found_event f k its last e at n (sym same) in start_if h end.0 (Failed e at n) tt end.1 (λ l a m x. cc)
-    start_by last (FoundTurn at n) q is same h =
-        let end = found_turn f k its last at n (sym same) in start_if h end.0 (Turned at n) tt end.1 (λ l a m x. cc)
-    start_by last (FoundExit at n) EntryQuestion is same h = absurd (cc)
-    start_by last (FoundExit at n) FailQuestion is same h = absurd (cc)
-    start_by last (FoundExit at n) StepQuestion is same h = absurd (cc)
-    start_by last (FoundExit at n) TurnQuestion is same h = absurd (cc)
-    start_by last (FoundCut at n) EntryQuestion is same h = absurd (cc)
-    start_by last (FoundCut at n) FailQuestion is same h = absurd (cc)
-    start_by last (FoundCut at n) StepQuestion is same h = absurd (cc)
-    start_by last (FoundCut at n) TurnQuestion is same h = absurd (cc)
-    start_by last (FoundBreak line at n) EntryQuestion is same h = absurd (cc)
-    start_by last (FoundBreak line at n) FailQuestion is same h = absurd (cc)
-    start_by last (FoundBreak line at n) StepQuestion is same h = absurd (cc)
-    start_by last (FoundBreak line at n) TurnQuestion is same h = absurd (cc)
-    start_by last (FoundLeft at n) EntryQuestion is same h = absurd (cc)
-    start_by last (FoundLeft at n) FailQuestion is same h = absurd (cc)
-    start_by last (FoundLeft at n) StepQuestion is same h = absurd (cc)
-    start_by last (FoundLeft at n) TurnQuestion is same h = absurd (cc)
+        none_listed : (l : List CallState) → map written_call_of l ≡ [] → l ≡ []
+        none_listed [] e = refl
+        none_listed (c ∷ l) e = absurd (cc)
 
-    -- what is shown of the root
-    module _ (x : Shown) (same : shown_of x ≡ shown_at u s i) where
-      pub start_written : IsWritten layout (is_known_at p) (written_of x.start)
-      start_written = subst (λ (z : reports.Shown). IsWritten layout (is_known_at p) z.start) (sym same) shown.entry
+    -- what it comes to
+    module _ (o : Option Ended) (came : IsCame w rank k b.points form (shown_of sh) o) where
+      its_came : IsCame w rank k b.points form (shown_at u s i) o
+      its_came = subst (λ (z : reports.Shown). IsCame w rank k b.points form z o) same came
 
-      heads_by : (o : Option HeadStart) → option_map written_head_of o ≡ (shown_at u s i).head → IsHeadWritten p invariants layout o
-      heads_by None e = tt
-      heads_by (Some h) e = (
-        shown.head (written_head_of h) (sym e),
-        head_there (written_parts s.parts) (choices_at s.choices.items i) (anchor_at u i) anchor (written_head_of h) (sym e),
-      )
+      named_by : (q : Question) → Ends q f k its → IsHeadFor f its.state its.head →
+          (n : Named) × (named_in (found f (Some k) its (b.points - 1)) ≡ Some n) × (is_end q n ≡ true)
+      named_by EntryQuestion h begins = absurd h
+      named_by FailQuestion h begins =
+          let q = fails_named f k its b.points (over begins) h in
+          (_, found_is f k its b.points b.in_range.points.0 (over begins) ∙ q.3, refl)
+      named_by StepQuestion h begins =
+          let q = fails_named f k its b.points (over begins) h in
+          (_, found_is f k its b.points b.in_range.points.0 (over begins) ∙ q.3, refl)
+      named_by TurnQuestion h begins =
+          let q = turns_named f k its b.points (over begins) h in
+          (_, found_is f k its b.points b.in_range.points.0 (over begins) ∙ q.2, refl)
 
-      pub heads_written : IsHeadWritten p invariants layout x.head
-      heads_written = heads_by x.head (ap (λ (z : reports.Shown). z.head) same)
+      none_by : (p : Option Ended) → IsCame w rank k b.points form (shown_at u s i) p → p ≡ None → ¬ EndsAsAsked w rank k form question u s i
+      none_by None c e h =
+          let begins = head_of_origin f k its.state its.head h.start.origin in
+          let q = named_by question h.ends begins in let z = sym q.1 ∙ c begins in cc
+      none_by (Some y) c e h = absurd (cc)
 
-      abbrev Fitting : reports.Shown → Type 0
-      Fitting z = IsHeadFor f (shown_start w f layout z).state (shown_start w f layout z).head
+      -- not an end
+      pub no_end : o ≡ None → ¬ EndsAsAsked w rank k form question u s i
+      no_end e = none_by o its_came e
 
-      -- it does not begin in a head state
-      pub no_head : ¬ IsHeadFor f (start_of p invariants layout x).state (start_of p invariants layout x).head →
-          ¬ EndsAsAsked p invariants k layout question u s i
-      no_head not e =
-          not (subst Fitting (sym same) (head_of_origin f k its.state its.head e.start.origin))
+    module _ (e : Ended) (came : IsCame w rank k b.points form (shown_of sh) (Some e)) where
+      here : IsCame w rank k b.points form (shown_at u s i) (Some e)
+      here = subst (λ (z : reports.Shown). IsCame w rank k b.points form z (Some e)) same came
 
-      module _ (places : HasPlaces p) (points : ℕ) (some : 1 ≤ points) (few : ¬ HasMore f k points) (r : FrameEnding)
-          (begins : IsHeadFor f (start_of p invariants layout x).state (start_of p invariants layout x).head)
-          (finds : frame_found_of r ≡ found f (Some k) (start_of p invariants layout x) (points - 1)) where
-        its_found : frame_found_of r ≡ found f (Some k) its (points - 1)
-        its_found = subst (λ (z : reports.Shown). frame_found_of r ≡ found f (Some k) (shown_start w f layout z) (points - 1)) same finds
+      -- another end than is asked for
+      pub other_end : is_end question (named_of e.ending) ≡ false → ¬ EndsAsAsked w rank k form question u s i
+      other_end other h =
+          let q = named_by (Some e) came question h.ends here.0 in
+          let t : named_of e.ending ≡ q.0 = (let z : Some (named_of e.ending) ≡ Some q.0 = sym here.1 ∙ q.1 in cc) in
+          let z : true ≡ false = sym q.2 ∙ ap (is_end question) (sym t) ∙ other in cc
 
-        -- it ends otherwise
-        ends_by : (q : Question) → Ends q f k its → IsStart f k its → is_end q (frame_found_of r) ≡ true
-        ends_by EntryQuestion h is = absurd h
-        ends_by FailQuestion h is =
-            let q = fails_found f ground.lawful ground.reads places refl k its is points some few h in
-            ap (is_end FailQuestion) (its_found ∙ q.3)
-        ends_by StepQuestion h is =
-            let q = fails_found f ground.lawful ground.reads places refl k its is points some few h in
-            ap (is_end StepQuestion) (its_found ∙ q.3)
-        ends_by TurnQuestion h is =
-            let q = turns_found f ground.lawful ground.reads places refl k its is points some few h in
-            ap (is_end TurnQuestion) (its_found ∙ q.2)
+      abbrev told : runs.Start
+      told = begun w rank form (shown_of e.shown)
 
-        pub no_end : is_end question (frame_found_of r) ≡ false → ¬ EndsAsAsked p invariants k layout question u s i
-        no_end other e = let same = sym (ends_by question e.ends e.start) ∙ other in let z : true ≡ false = same in cc
+      told_ends : end_named (run f k told b.points) ≡ Some (named_of e.ending)
+      told_ends = ap end_named here.2.same ∙ sym (found_is f k its b.points b.in_range.points.0 (over here.0)) ∙ here.1
 
-        -- or as the question asks
-        pub is_ended : is_end question (frame_found_of r) ≡ true → IsEnded p invariants k (points - 1) layout question (record { shown = x; ending = r })
-        is_ended is = record {
-          shown = subst (λ (z : reports.Shown). IsShown w f layout z) (sym same) shown;
-          head = head_by (written_parts s.parts) (choices_at s.choices.items i) (anchor_at u i) question x.head wanted
-              (ap (λ (z : reports.Shown). z.head) same);
-          start = subst (λ (z : reports.Shown). IsStart f k (shown_start w f layout z)) (sym same)
-              (start_by (points - 1) (frame_found_of r) question is its_found (subst Fitting same begins));
-          found = finds;
-          ends = is;
-        }
+      told_state : told.state ≡ its.state
+      told_state = ap (λ (z : _). (begun w rank form (record (shown_of e.shown) { start = z })).state) here.2.start
+
+      told_origin : IsOrigin f k told.state told.head
+      told_origin =
+          subst (λ (z : State). IsOrigin f k z told.head) (sym told_state)
+          (subst (λ (z : Option WrittenHead). IsOrigin f k its.state (head_of f form z)) (sym here.2.head)
+          (origin_is w f k form (written_parts s.parts) choices calls (anchor_at u i) anchor here.0))
+
+      told_choices : (n : ℕ) → told.choices n < 4
+      told_choices n =
+          subst (λ (z : ℕ → ℕ). z n < 4) (sym choices_told)
+          (choices_few w f k form (written_parts s.parts) choices calls (anchor_at u i) shown n)
+        where
+          choices_told : told.choices ≡ its.choices
+          choices_told =
+              ap (λ (z : _). reports.choices_of z (shown_of e.shown).head) here.2.start
+              ∙ ap (λ (z : Option WrittenHead). reports.choices_of (shown_at u s i).start z) here.2.head
+
+      -- or as the question asks
+      pub is_ended : is_end question (named_of e.ending) ≡ true → IsEnded w rank k form question e
+      is_ended is = record {
+        shown = here.2.shown;
+        head = has_head w f k form (written_parts s.parts) choices calls (anchor_at u i) question e.shown.head wanted here.2.head;
+        start = record {
+          entry = subst (IsEntryState f.program) (sym told_state) entry;
+          origin = told_origin;
+          choices = told_choices;
+          given = given_is (shown_of e.shown) here.2.shown;
+          is_run = unbroken f k told b.points (named_of e.ending) told_ends;
+        };
+        ends = ends_as f k told b.points (named_of e.ending) told_ends;
+        asked = is;
+        made = here.2.made;
+        called = here.2.called;
+        uncalled = here.2.uncalled;
+      }
 
 -- a root for which the question does not ask
-pub not_wanted : (p : Program) (invariants : List ℕ) (k : ℕ) (layout : Layout) (question : Question) (u : Unrolled) (s : Segments) (i : ℕ) →
-    wants_anchor question (anchor_at u i) ≡ false → ¬ EndsAsAsked p invariants k layout question u s i
-not_wanted p invariants k layout question u s i other e = let z : true ≡ false = sym e.wants ∙ other in cc
+pub not_wanted : (w : Whole) (rank k : ℕ) (layout : Layout) (question : Question) (u : Unrolled) (s : Segments) (i : ℕ) →
+    wants_anchor question (anchor_at u i) ≡ false → ¬ EndsAsAsked w rank k layout question u s i
+not_wanted w rank k layout question u s i other e = let z : true ≡ false = sym e.wants ∙ other in cc
 
 -- some root shows the question
-pub some_root : (p : Program) (invariants : List ℕ) (k : ℕ) (layout : Layout) (question : Question) (u : Unrolled) (s : Segments) → 0 < length u.roots.items →
-    ShowsQuestion (frame_of p invariants) k layout u s question → question ≢ EntryQuestion →
-    (i : ℕ) × (i < length u.roots.items) × EndsAsAsked p invariants k layout question u s i
-some_root p invariants k layout EntryQuestion u s some h other = absurd (other refl)
-some_root p invariants k layout FailQuestion u s some h other =
-    let q = h.1 (whole_of p invariants) in (0, some, record { wants = ap (wants_anchor FailQuestion) h.0; start = q.1; ends = q.2 })
-some_root p invariants k layout StepQuestion u s some h other =
-    let q = h.2 (whole_of p invariants) in
-    (h.0, h.1.0, record { wants = ap (wants_anchor StepQuestion) h.1.1.2; start = q.1; ends = q.2 })
-some_root p invariants k layout TurnQuestion u s some h other =
-    let q = h.2 (whole_of p invariants) in (h.0, h.1, record { wants = refl; start = q.1; ends = q.2 })
+pub some_root : (w : Whole) (rank k : ℕ) (layout : Layout) (question : Question) (u : Unrolled) (s : Segments) → HasStepped (frame_of w rank) w.contracts →
+    0 < length u.roots.items → ShowsQuestion (frame_of w rank) k layout u s question → question ≢ EntryQuestion →
+    (i : ℕ) × (i < length u.roots.items) × EndsAsAsked w rank k layout question u s i
+some_root w rank k layout EntryQuestion u s told some h other = absurd (other refl)
+some_root w rank k layout FailQuestion u s told some h other =
+    let q = h.1 w told in (0, some, record { wants = ap (wants_anchor FailQuestion) h.0; start = q.1; ends = q.2 })
+some_root w rank k layout StepQuestion u s told some h other =
+    let q = h.2 w told in (h.0, h.1.0, record { wants = ap (wants_anchor StepQuestion) h.1.1.2; start = q.1; ends = q.2 })
+some_root w rank k layout TurnQuestion u s told some h other =
+    let q = h.2 w told in (h.0, h.1, record { wants = refl; start = q.1; ends = q.2 })
 
 -- whether the question asks for the root of a number, by its value
 pub wanted_by : (u : Unrolled) (i : ℕ) (x : Root) (question : Question) (b t : Bool) → i < length u.roots.items → x ≡ get_or u.roots.items i x →
@@ -254,8 +365,9 @@ wanted_by u i x question b t inside is told e =
     ∙ sym told ∙ e
 
 -- what a segment comes to
-pub came_to : (f : Frame) (k last : ℕ) (start : runs.Start) (o p : Option FrameEnding) → IsEndOf f k last start o → o ≡ p → IsEndOf f k last start p
-came_to f k last start o p h e = subst (IsEndOf f k last start) e h
+pub came_as : (w : Whole) (rank k points : ℕ) (layout : Layout) (s : reports.Shown) (o p : Option Ended) → IsCame w rank k points layout s o → o ≡ p →
+    IsCame w rank k points layout s p
+came_as w rank k points layout s o p h e = subst (IsCame w rank k points layout s) e h
 
 -- a later question than the entry's
 pub later : (a : Asked) → a ≢ asked.Entry → frame_question a ≢ EntryQuestion

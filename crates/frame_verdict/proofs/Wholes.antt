@@ -1,115 +1,159 @@
--- The points and the price of notes without contracts are those of the entry's frame.
-use Rattle.std.proofs.Common.{◌≡◌, ℕ, zero, suc, ◌+◌, ◌<◌, ◌≤◌, refl, ap, sym, ◌∙◌, subst, arith, List, [], ◌∷◌, map}
-use Rattle.std.specs.Prelude.{Contains, slice_get, option_map, sum_by}
-use Rattle.std.proofs.lemmas.List.{length-map}
-use Rattle.std.proofs.lemmas.List.Sums.{sum_by-cons}
-use Rattle.bilv_spec.specs.Run.{Program}
-use Rattle.bilv_spec.proofs.PointsInGraph.{of_map}
-use Rattle.call_spec.specs.Calls.{Budget}
-use Rattle.frame_spec.specs.Frames.{Frame}
-use Rattle.program_points.specs.Listed.{HasTooMany}
-use Rattle.program_points.specs.declared.values.PointsFault.{PointsFault}
-use Rattle.program_points.specs.declared.values.PointsFault.TheVariants.{TooMany}
+-- The points and the prices of the frames of a whole, added up in the order of their ranks.
+use Rattle.std.proofs.Common.{◌≡◌, ◌≢◌, ◌⊎◌, inl, inr, ℕ, zero, suc, ◌+◌, ◌-◌, ◌<◌, ◌≤◌, refl, ap, sym, ◌∙◌, subst, arith, List, [], ◌∷◌, ◌++◌, map, length}
+use Rattle.std.specs.Prelude.{Contains, min}
+use Rattle.std.specs.List.{AllZip}
+use Rattle.std.proofs.lemmas.Bool.{cases_lt}
+use Rattle.std.proofs.lemmas.List.{length-append, length-map}
+use Rattle.std.proofs.lemmas.List.Sums.{sum_by-append, sum_by-cons}
+use Rattle.word_spec.specs.RowFiles.{from_to}
+use Rattle.bilv_spec.proofs.Pigeons.{Once, no_longer}
+use Rattle.bilv_spec.proofs.PointSteps.{here, in_left, in_right, there}
+use Rattle.bilv_spec.proofs.PointsInGraph.{of_map, none_in, split_in}
 use Rattle.frame_spec.specs.FramePoints as frames
-use Rattle.frame_spec.specs.FramePoints.{Point, IsPoint, IsPrice}
-use Rattle.frame_spec.specs.FrameVerdict.{Whole, entry_frame, frame_of}
-use Rattle.frame_spec.specs.FrameReports.{RankedPoint, HasMore, IsWholePrice, IsWithin, PassBelow}
+use Rattle.frame_spec.specs.FramePoints.{ArePoints, AtEntry, IsPoint, IsPrice, Point, first_of}
+use Rattle.frame_spec.specs.FrameVerdict.{Whole, frame_of}
+use Rattle.frame_spec.specs.FrameReports.{HasMore, IsWholePrice, IsWithin, RankedPoint, last_rank, ranks}
+use Rattle.frame_laws.proofs.OnceLists.{head_or_tail, not_in_tail, once_more, once_tail}
+use Rattle.call_spec.specs.Calls.{Budget}
+use Rattle.frame_verdict.specs.FrameMeasures.{ArePointsBelow, IsPriceBelow}
 
--- no frame is below the first
-pub none_below : (w : Whole) (k : ℕ) → PassBelow w k 0
-none_below w k i l = absurd (omega arith)
+-- ---- lists
 
-abbrev ranked : Point → RankedPoint
-ranked q = (0, q)
+-- a list that has none of the elements of another, each once, can stand before it
+module _ {X : Type 0} where
+  once_both : (xs ys : List X) → Once xs → Once ys → ((x : X) → Contains xs x → Contains ys x → ⊥) → Once (xs ++ ys)
+  once_both [] ys a b apart = b
+  once_both (x ∷ xs) ys a b apart =
+      once_more x (xs ++ ys) (once_both xs ys (once_tail x xs a) b (λ y c d. apart y (there x xs y c) d))
+      (λ c. elim (split_in xs ys x c) [ inl l ↦ not_in_tail x xs a l | inr r ↦ apart x (here x xs) r ])
 
-abbrev of_rank : RankedPoint → Point
-of_rank x = x.1
+-- points of a rank
+module _ (rank : ℕ) where
+  abbrev ranked : Point → RankedPoint
+  ranked q = (rank, q)
 
-get_ranked : (xs : List Point) (i : ℕ) → option_map of_rank (slice_get (map ranked xs) i) ≡ slice_get xs i
-get_ranked [] i = refl
-get_ranked (q ∷ xs) zero = refl
-get_ranked (q ∷ xs) (suc i) = get_ranked xs i
+  in_ranked : (qs : List Point) (q : Point) → Contains qs q → Contains (map ranked qs) (rank, q)
+  in_ranked [] q c = none_in q c
+  in_ranked (p ∷ qs) q c = elim (head_or_tail p qs q c) [
+    | inl e ↦ subst (λ (z : Point). Contains (map ranked (p ∷ qs)) (rank, z)) e (here (rank, p) (map ranked qs))
+    | inr t ↦ there (rank, p) (map ranked qs) (rank, q) (in_ranked qs q t)
+  ]
 
-get_of : (xs : List RankedPoint) (i : ℕ) → slice_get (map of_rank xs) i ≡ option_map of_rank (slice_get xs i)
-get_of [] i = refl
-get_of (x ∷ xs) zero = refl
-get_of (x ∷ xs) (suc i) = get_of xs i
+  point_in : (qs : List Point) (x : RankedPoint) → Contains (map ranked qs) x → (x.0 ≡ rank) × Contains qs x.1
+  point_in qs x c =
+      let it = of_map ranked qs x c in
+      (ap (λ (z : RankedPoint). z.0) (sym it.2), subst (λ (z : RankedPoint). Contains qs z.1) it.2 it.1)
 
-module _ (p : Program) (invariants : List ℕ) (k : ℕ) where
-  abbrev w : Whole
-  w = record { program = p; invariants = invariants; contracts = [] }
+  once_ranked : (qs : List Point) → Once qs → Once (map ranked qs)
+  once_ranked [] once = λ i j l h e. absurd (omega arith)
+  once_ranked (q ∷ qs) once =
+      once_more (rank, q) (map ranked qs) (once_ranked qs (once_tail q qs once))
+      (λ c. not_in_tail q qs once (point_in qs (rank, q) c).1)
 
-  abbrev f : Frame
-  f = entry_frame w
+-- ---- points
 
-  pub more_to : (max : ℕ) → frames.HasMore f k max → HasMore w k max
-  more_to max (xs, big, inside, once) = (
-    map ranked xs,
-    subst (λ z. max < z) (sym (length-map xs ranked)) big,
-    (λ x c. (let it = of_map ranked xs x c in
-        subst (λ (z : RankedPoint). (z.0 ≤ 0) × IsPoint (frame_of w z.0) k z.1) it.2 (omega arith, inside it.0 it.1))),
-    (λ i j l h e. once i j l (subst (λ z. j < z) (length-map xs ranked) h) (sym (get_ranked xs i) ∙ ap (option_map of_rank) e ∙ get_ranked xs j)),
-  )
-
-  is_of : (x : RankedPoint) → (x.0 ≤ 0) × IsPoint (frame_of w x.0) k x.1 → IsPoint f k x.1
-  is_of (n, q) h = let e : n ≡ 0 = let l = h.0 in omega arith in subst (λ z. IsPoint (frame_of w z) k q) e h.1
-
-  back : (x : RankedPoint) → (x.0 ≤ 0) × IsPoint (frame_of w x.0) k x.1 → ranked x.1 ≡ x
-  back (n, q) h = let e : n ≡ 0 = let l = h.0 in omega arith in ap (λ z. pair z q) (sym e)
-    where
-      pair : ℕ → Point → RankedPoint
-      pair n q = (n, q)
-
-  all_back : (xs : List RankedPoint) → ((x : RankedPoint) → Contains xs x → (x.0 ≤ 0) × IsPoint (frame_of w x.0) k x.1) → map ranked (map of_rank xs) ≡ xs
-  all_back [] h = refl
-  all_back (x ∷ xs) h =
-      ap (λ z. z ∷ map ranked (map of_rank xs)) (back x (h x (0, omega arith, refl)))
-      ∙ ap (λ z. x ∷ z) (all_back xs (λ y c. h y (suc c.0, (let l = c.1 in omega arith), c.2)))
-
-  get_back : (xs : List RankedPoint) (i : ℕ) → ((x : RankedPoint) → Contains xs x → (x.0 ≤ 0) × IsPoint (frame_of w x.0) k x.1) →
-      slice_get xs i ≡ option_map ranked (slice_get (map of_rank xs) i)
-  get_back xs i h = ap (λ z. slice_get z i) (sym (all_back xs h)) ∙ get_map (map of_rank xs) i
-    where
-      get_map : (ys : List Point) (i : ℕ) → slice_get (map ranked ys) i ≡ option_map ranked (slice_get ys i)
-      get_map [] i = refl
-      get_map (y ∷ ys) zero = refl
-      get_map (y ∷ ys) (suc i) = get_map ys i
-
-  more_from : (max : ℕ) → HasMore w k max → frames.HasMore f k max
-  more_from max (xs, big, inside, once) = (
-    map of_rank xs,
-    subst (λ z. max < z) (sym (length-map xs of_rank)) big,
-    (λ q c. (let it = of_map of_rank xs q c in subst (IsPoint f k) it.2 (is_of it.0 (inside it.0 it.1)))),
-    (λ i j l h e. once i j l (subst (λ z. j < z) (length-map xs of_rank) h)
-        (get_back xs i inside ∙ ap (option_map ranked) e ∙ sym (get_back xs j inside))),
-  )
-
-  one_sum : (n : ℕ) → sum_by (λ (m : ℕ). m) (n ∷ []) ≡ n
-  one_sum n = let e = sum_by-cons (λ (m : ℕ). m) n [] in omega arith
-
-  pub price_to : (n : ℕ) → IsPrice f k n → IsWholePrice w k n
-  price_to n h = (n ∷ [], (h, tt), sym (one_sum n))
-
--- the entry's frame is within the budgets, and so are the notes
-pub within : (p : Program) (invariants : List ℕ) (b : Budget) (price : ℕ) → ¬ frames.HasMore (f p invariants b.unroll) b.unroll b.points →
-    IsPrice (f p invariants b.unroll) b.unroll price → price ≤ b.size → IsWithin (w p invariants b.unroll) b
-within p invariants b price few is cheap = record {
-  points = λ m. few (more_from p invariants b.unroll b.points m);
-  price = price;
-  is_price = price_to p invariants b.unroll price is;
-  size = cheap;
+pub none_below : (w : Whole) (k : ℕ) → ArePointsBelow w k 0 []
+none_below w k = record {
+  all = λ i q l. absurd (omega arith);
+  only = λ x c. none_in x c;
+  once = λ i j l h. absurd (omega arith);
 }
 
-pub no_more : (p : Program) (invariants : List ℕ) (k max : ℕ) → ¬ frames.HasMore (f p invariants k) k max → ¬ HasMore (w p invariants k) k max
-no_more p invariants k max few m = few (more_from p invariants k max m)
+module _ (w : Whole) (k rank : ℕ) (xs : List RankedPoint) (are : ArePointsBelow w k rank xs) where
+  -- the points of the rank are none of those
+  apart : (qs : List Point) (x : RankedPoint) → Contains xs x → Contains (map (ranked rank) qs) x → ⊥
+  apart qs x c d = let less = (are.only x c).0 in let same = (point_in rank qs x d).0 in absurd (omega arith)
 
--- and the points of the frame are few
-pub few_points : (p : Program) (invariants : List ℕ) (b : Budget) → IsWithin (w p invariants b.unroll) b →
-    ¬ frames.HasMore (f p invariants b.unroll) b.unroll b.points
-few_points p invariants b h m = h.points (more_to p invariants b.unroll b.points m)
+  -- so they can stand behind them
+  pub points_behind : (qs : List Point) → ArePoints (frame_of w rank) k qs → ArePointsBelow w k (rank + 1) (xs ++ map (ranked rank) qs)
+  points_behind qs points = record {
+    all = λ i q l is. by i q is (cases_lt i rank) l;
+    only = λ x c. elim (split_in xs (map (ranked rank) qs) x c) [
+      | inl a ↦ (let h = (are.only x a).0 in omega arith, (are.only x a).1)
+      | inr a ↦ (
+        let e = (point_in rank qs x a).0 in omega arith,
+        subst (λ (z : ℕ). IsPoint (frame_of w z) k x.1) (sym (point_in rank qs x a).0) (points.only x.1 (point_in rank qs x a).1),
+      )
+    ];
+    once = once_both xs (map (ranked rank) qs) are.once (once_ranked rank qs points.once) (apart qs);
+  }
+    where
+      by : (i : ℕ) (q : Point) → IsPoint (frame_of w i) k q → (i < rank) ⊎ (rank ≤ i) → i < rank + 1 → Contains (xs ++ map (ranked rank) qs) (i, q)
+      by i q is (inl l) below = in_left xs (map (ranked rank) qs) (i, q) (are.all i q l is)
+      by i q is (inr m) below =
+          let e : rank ≡ i = omega arith in
+          subst (λ (z : ℕ). Contains (xs ++ map (ranked rank) qs) (z, q)) e
+          (in_right xs (map (ranked rank) qs) (rank, q)
+          (in_ranked rank qs q (points.all q (subst (λ (z : ℕ). IsPoint (frame_of w z) k q) (sym e) is))))
 
--- more points than may be listed
-pub too_many : (p : Program) (invariants : List ℕ) (k max count : ℕ) (e : PointsFault) → HasTooMany (f p invariants k) k max e → e ≡ TooMany count →
-    HasMore (w p invariants k) k max × (count ≡ max + 1)
-too_many p invariants k max count e h is =
-    let more = subst (λ (z : PointsFault). HasTooMany (f p invariants k) k max z) is h in (more_to p invariants k max more.0, more.1)
+  -- and where the frame has more points than are left, all have more together
+  pub more_of_rank : (max left : ℕ) → rank ≤ last_rank w → length xs + left ≡ max → frames.HasMore (frame_of w rank) k left → HasMore w k max
+  more_of_rank max left within count (qs, big, inside, once) = (
+    xs ++ map (ranked rank) qs,
+    (let a = length-append xs (map (ranked rank) qs) in let b = length-map qs (ranked rank) in omega arith),
+    (λ x c. elim (split_in xs (map (ranked rank) qs) x c) [
+      | inl a ↦ (let h = (are.only x a).0 in omega arith, (are.only x a).1)
+      | inr a ↦ (
+        let e = (point_in rank qs x a).0 in omega arith,
+        subst (λ (z : ℕ). IsPoint (frame_of w z) k x.1) (sym (point_in rank qs x a).0) (inside x.1 (point_in rank qs x a).1),
+      )
+    ]),
+    once_both xs (map (ranked rank) qs) are.once (once_ranked rank qs once) (apart qs),
+  )
+
+  pub length_behind : (qs : List Point) → length (xs ++ map (ranked rank) qs) ≡ length xs + length qs
+  length_behind qs = length-append xs (map (ranked rank) qs) ∙ ap (λ z. length xs + z) (length-map qs (ranked rank))
+
+-- all frames have no more points than these
+pub no_more : (w : Whole) (k max : ℕ) (xs : List RankedPoint) → ArePointsBelow w k (last_rank w + 1) xs → length xs ≤ max → ¬ HasMore w k max
+no_more w k max xs are few (ys, big, inside, once) =
+    let l = no_longer xs ys (λ y c. (let h = inside y c in are.all y.0 y.1 (let r = h.0 in omega arith) h.1)) once (0, first_of w.program.entry AtEntry) in
+    absurd (omega arith)
+
+-- ---- prices
+
+from_to_more : (first n : ℕ) → from_to first (suc n) ≡ from_to first n ++ (first + n) ∷ []
+from_to_more first zero = ap (λ z. z ∷ []) (let e : first ≡ first + 0 = omega arith in e)
+from_to_more first (suc n) =
+    ap (λ z. first ∷ z) (from_to_more (first + 1) n ∙ ap (λ z. from_to (first + 1) n ++ z ∷ []) (let e : first + 1 + n ≡ first + suc n = omega arith in e))
+
+module _ {A B : Type 0} (P : A → B → Type 0) where
+  zip_more : (xs : List A) (ys : List B) (x : A) (y : B) → AllZip P xs ys → P x y → AllZip P (xs ++ x ∷ []) (ys ++ y ∷ [])
+  zip_more [] [] x y all h = (h, tt)
+  zip_more [] (b ∷ ys) x y all h = absurd all
+  zip_more (a ∷ xs) [] x y all h = absurd all
+  zip_more (a ∷ xs) (b ∷ ys) x y all h = (all.0, zip_more xs ys x y all.1 h)
+
+pub zip_next : {B : Type 0} (P : ℕ → B → Type 0) (n : ℕ) (ys : List B) (y : B) → AllZip P (from_to 0 n) ys → P n y → AllZip P (from_to 0 (n + 1)) (ys ++ y ∷ [])
+zip_next P n ys y all h =
+    let e : from_to 0 (n + 1) ≡ from_to 0 n ++ n ∷ [] =
+    (let s : n + 1 ≡ suc n = omega arith in ap (from_to 0) s) ∙ from_to_more 0 n ∙ ap (λ z. from_to 0 n ++ z ∷ []) (let z : 0 + n ≡ n = omega arith in z) in
+    subst (λ z. AllZip P z (ys ++ y ∷ [])) (sym e) (zip_more P (from_to 0 n) ys n y all h)
+
+pub no_price : (w : Whole) (k : ℕ) → IsPriceBelow w k 0 0
+no_price w k = ([], tt, refl)
+
+pub price_behind : (w : Whole) (k rank price n : ℕ) → IsPriceBelow w k rank price → IsPrice (frame_of w rank) k n → IsPriceBelow w k (rank + 1) (price + n)
+price_behind w k rank price n (prices, all, is) one = (
+  prices ++ n ∷ [],
+  zip_next (λ r m. IsPrice (frame_of w r) k m) rank prices n all one,
+  (let a = sum_by-append (λ (m : ℕ). m) prices (n ∷ []) in let b = sum_by-cons (λ (m : ℕ). m) n [] in omega arith),
+)
+
+-- a sum that is capped is one of numbers that are not
+pub not_capped : (a b price cap : ℕ) → price ≡ min (a + min b cap) cap → price ≢ cap → (a ≢ cap) × (price ≡ a + b)
+not_capped a b price cap is other =
+    by (cases_lt (a + min b cap) cap)
+  where
+    by : ((a + min b cap) < cap) ⊎ (cap ≤ a + min b cap) → (a ≢ cap) × (price ≡ a + b)
+    by (inl l) = elim (cases_lt b cap) [
+      | inl m ↦ (let e : min b cap ≡ b = omega (arith, m) in let f : min (a + min b cap) cap ≡ a + min b cap = omega (arith, l) in
+          (λ q. absurd (omega (arith, l, e, q)), omega (arith, e, f, is)))
+      | inr m ↦ (let e : min b cap ≡ cap = omega (arith, m) in absurd (omega (arith, l, e)))
+    ]
+    by (inr l) = absurd (other (let f : min (a + min b cap) cap ≡ cap = omega (arith, l) in is ∙ f))
+
+-- ---- the budgets
+
+pub within : (w : Whole) (b : Budget) (price : ℕ) → ¬ HasMore w b.unroll b.points → IsWholePrice w b.unroll price → price ≤ b.size → IsWithin w b
+within w b price few is cheap = record { points = few; price = price; is_price = is; size = cheap }

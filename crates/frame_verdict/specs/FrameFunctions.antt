@@ -1,41 +1,83 @@
--- The program and the frame that a function of two files is, whose notes have invariants, and what its verdict needs.
-use Rattle.std.specs.Prelude.{◌≡◌, []}
+-- The program, the whole and the frames that a function of two files is, and what its verdict needs.
+use Rattle.std.specs.Prelude.{ℕ, ◌≡◌, ◌≢◌, ◌≤◌, ◌<◌, ◌^◌, true, All, List, [], Option, Some, None, length, map, nat_eq, slice_get, sum_by}
+use Rattle.std.specs.List.{list_any}
 use Rattle.std.specs.List.Sorted.{IsStrictlyIncreasing}
-use Rattle.machine_spec.specs.Machine.{Machine}
+use Rattle.machine_spec.specs.Machine.{Machine, IsAtPlace}
 use Rattle.machine_spec.specs.StateText.{Layout}
 use Rattle.bilv_spec.specs.Files.{order_of, program_of}
+use Rattle.bilv_spec.specs.Notes.{Notes}
 use Rattle.bilv_spec.specs.Run.{Program}
 use Rattle.call_form.specs.Views.{budget_of}
 use Rattle.call_form.specs.declared.budget.Budget.{Budget}
-use Rattle.frame_spec.specs.Frames.{Frame}
-use Rattle.frame_spec.specs.FrameLaws.{HasPlaces}
+use Rattle.frame_spec.specs.Frames.{Contract, Frame}
 use Rattle.frame_spec.specs.FrameReports.{IsWithin}
+use Rattle.frame_spec.specs.FrameVerdict as frames
+use Rattle.frame_spec.specs.FrameVerdict.{Whole}
+use Rattle.notes_value.specs.FrameViews.{contract_of}
 use Rattle.notes_value.specs.NoteViews.{notes_of}
-use Rattle.notes_value.specs.Reads.{AreReadable}
+use Rattle.notes_value.specs.Reads.{AreOver, AreReadable, IsOver, IsReadableContract}
 use Rattle.question_form.specs.declared.unrolled.Unrolled.{Unrolled}
-use Rattle.table_run.specs.FrameEnds.{frame_of, whole_of}
-use Rattle.frame_rounds.specs.FrameGrounds.{IsFrameGround}
-use Rattle.frame_verdict.specs.FrameMeasures.{IsFrameMeasurable}
+use Rattle.table_run.specs.FrameEnds.{frame_of}
+use Rattle.frame_verdict.specs.FrameMeasures.{IsFrameUnrolled}
 use Rattle.frame_verdict.specs.declared.framed.Framed.{Framed}
 
 -- the program, over a machine
 abbrev pub program_of_framed : Machine → Framed → Program
 program_of_framed m x = program_of m x.image.now (notes_of x.notes.now) x.entry
 
--- its frame, whose runs are cut at its heads
+-- its contracts, in the order of their ranks
+abbrev pub contracts_of : Framed → List Contract
+contracts_of x = map contract_of x.contracts.now
+
+-- all that it is
+abbrev pub whole_of_framed : Machine → Framed → Whole
+whole_of_framed m x = record { program = program_of_framed m x; invariants = x.invariants.now; contracts = contracts_of x }
+
+-- its frame of a rank
+abbrev pub frame_at : Machine → Framed → (rank : ℕ) → Frame
+frame_at m x rank = frames.frame_of (whole_of_framed m x) rank
+
+-- its frame where it has no contracts, whose runs are cut at its heads
 abbrev pub frame_of_framed : Machine → Framed → Frame
 frame_of_framed m x = frame_of (program_of_framed m x) x.invariants.now
 
--- What runs need of it: the machine's byte order, notes over the machine's registers, and the invariants' numbers in rising order.
-pub record CanRun (m : Machine) (x : Framed) : Type 0 where
-  pub order : order_of x.image.now ≡ m.endian
-  pub readable : AreReadable m.has_register (notes_of x.notes.now)
-  pub rising : IsStrictlyIncreasing x.invariants.now
+-- the notes of a frame: those of the file, or for a contract's frame what the contract needs in the place of what they require
+abbrev pub notes_by : Notes → Option Contract → Notes
+notes_by n None = n
+notes_by n (Some x) = record n { requires = x.needs; ensures = []; fixed = [] }
 
--- What its verdict needs besides: rows that stand at places; the budgets; and its unrolled frame, over the form of states.
-pub record IsReady (m : Machine) (form : Layout) (x : Framed) (b : Budget) (u : Unrolled) : Type 0 where
+abbrev pub IsNotesAt : Framed → (rank : ℕ) → Notes → Type 0
+IsNotesAt x rank n = n ≡ notes_by (notes_of x.notes.now) (slice_get (contracts_of x) rank)
+
+-- The lines of a contract are over the words of a machine, each that writes does so to one byte at least, all of them together to fewer than 2 ^ 64; it changes
+-- registers and flags of the machine alone; and a row can stand at its address.
+pub record IsCallable (m : Machine) (c : Contract) : Type 0 where
+  pub needs : All (λ l. IsOver m.has_register m.has_flag l.says) c.needs
+  pub gives : All (λ l. IsOver m.has_register m.has_flag l.says) c.gives
+  pub writes : All (λ w. IsOver m.has_register m.has_flag w.says × (1 ≤ w.count)) c.writes
+  pub few : sum_by (λ w. w.count) c.writes < 2 ^ 64
+  pub registers : (r : ℕ) → list_any (nat_eq r) c.registers ≡ true → m.has_register r ≡ true
+  pub flags : (f : ℕ) → list_any (nat_eq f) c.flags ≡ true → m.has_flag f ≡ true
+  pub place : IsAtPlace m.narrow c.at
+
+-- What unrolling needs of it: the machine's byte order, lines over the words of the machine, and addresses at which a row can stand.
+pub record CanUnroll (m : Machine) (x : Framed) : Type 0 where
+  pub order : order_of x.image.now ≡ m.endian
+  pub over : AreOver m.has_register m.has_flag (notes_of x.notes.now)
+  pub place : IsAtPlace m.narrow x.entry
+  pub callable : All (λ c. IsCallable m (contract_of c)) x.contracts.now
+
+-- What runs need of it besides: lines that can be read, the invariants' numbers in rising order, and no invariants beside contracts.
+pub record CanRun (m : Machine) (x : Framed) : Type 0 where
+  pub unroll : CanUnroll m x
+  pub readable : AreReadable m.has_register (notes_of x.notes.now)
+  pub read : All (λ c. IsReadableContract m.has_register (contract_of c)) x.contracts.now
+  pub rising : IsStrictlyIncreasing x.invariants.now
+  pub alone : x.contracts.now ≢ [] → x.invariants.now ≡ []
+
+-- What the verdict of the frame of a rank needs besides: the budgets; and its unrolled frame, over the form of states.
+pub record IsReady (m : Machine) (form : Layout) (x : Framed) (b : Budget) (rank : ℕ) (u : Unrolled) : Type 0 where
   pub runs : CanRun m x
-  pub measurable : IsFrameMeasurable u
-  pub places : HasPlaces (program_of_framed m x)
-  pub within : IsWithin (whole_of (program_of_framed m x) x.invariants.now) (budget_of b)
-  pub ground : IsFrameGround (frame_of_framed m x) [] b.unroll form u
+  pub ranked : rank ≤ length x.contracts.now
+  pub within : IsWithin (whole_of_framed m x) (budget_of b)
+  pub unrolled : IsFrameUnrolled (frame_at m x rank) (contracts_of x) b.unroll form u

@@ -3,5 +3,6 @@ pub mod FrameFunctions
 pub mod FrameMeasures
 pub mod ShownEnds
 pub mod Questions
+pub mod JudgedFrames
 pub mod FrameCertificates
 pub mod FrameScripted

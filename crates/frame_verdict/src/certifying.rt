@@ -1,40 +1,42 @@
-//! The questions of a function of two files whose notes may have invariants, certified one by one.
-ghost use Rattle.std.specs.Prelude.{◌≡◌, ℕ, [], List, IfOk};
-ghost use Rattle.std.specs.List.Sorted.{IsStrictlyIncreasing};
+//! The questions of a frame of a function of two files whose notes may have invariants or contracts, certified one by one.
+ghost use Rattle.std.specs.Prelude.{◌≡◌, ◌≤◌, ◌<◌, ℕ, List, All, IfOk, length, map};
 ghost use Rattle.bilv_spec.specs.Files.{order_of, program_of};
-ghost use Rattle.bilv_spec.specs.Run.{Program};
 ghost use Rattle.call_form.specs.Views.{budget_of};
 ghost use Rattle.call_spec.specs.Calls as answers;
+ghost use Rattle.frame_spec.specs.Frames.{Contract as Meant};
 ghost use Rattle.frame_spec.specs.FrameQuestions.{Question};
 ghost use Rattle.frame_spec.specs.FrameReports.{IsWithin};
+ghost use Rattle.frame_spec.specs.FrameVerdict.{Whole, frame_of};
 ghost use Rattle.machine_spec.specs.Machine.{IsAtPlace};
 ghost use Rattle.machine_spec.specs.StateText.{Layout};
+ghost use Rattle.notes_value.specs.FrameViews.{contract_of};
 ghost use Rattle.notes_value.specs.NoteViews.{notes_of};
 ghost use Rattle.notes_value.specs.Reads.{AreOver};
 ghost use Rattle.question_form.specs.Asked.{frame_question};
 ghost use Rattle.question_form.specs.declared.unrolled.Unrolled.{Unrolled as UnrolledFrame};
-ghost use Rattle.table_run.specs.FrameEnds.{frame_of, whole_of};
 ghost use Rattle.frame_rounds.specs.FrameGrounds.{AnswersFrame, IsFrameGround};
 ghost use Rattle.frame_verdict.specs.FrameCertificates.{IsFrameCertificate};
-ghost use Rattle.frame_verdict.specs.FrameMeasures.{IsFrameMeasurable, IsFrameUnrolledOf};
+ghost use Rattle.frame_verdict.specs.FrameFunctions.{CanUnroll, IsCallable, IsNotesAt, whole_of_framed};
+ghost use Rattle.frame_verdict.specs.FrameMeasures.{IsFrameMeasurable, IsFrameUnrolled};
 
-use crate::measuring::{price_above, unroll_frame_within};
+use crate::framed::Framed;
+use crate::measuring::{Weighed, measure, unroll_within};
+use crate::ranks::notes_of_rank;
 use call_form::Budget;
 use elf32_reader::Image;
 use frame_rounds::{FrameAnswered, decide_frame};
 use machine_law::Machine;
-use notes_value::Notes;
+use notes_value::{Contract, Notes};
 use passify::passive_of_frame;
-use program_points::PointsFault;
 use question_form::{Asked, Unrolled};
 use std::alloc::{AllocError, Global};
-use verdict::{Certified, Exceeded};
+use verdict::Certified;
 
-/// What the answer to a question of a frame within the budgets certifies.
+/// What the answer to a question of the frame of a rank within the budgets certifies.
 fn certified(answered: FrameAnswered) -> Certified
-    ensures { (p : Program) (invariants : List ℕ) (layout : Layout) (b : answers.Budget) (question : Question) (u : UnrolledFrame) → IsWithin (whole_of p invariants) b →
-        IsFrameGround (frame_of p invariants) [] b.unroll layout u → AnswersFrame u question b.conflicts answered →
-        IsFrameCertificate (whole_of p invariants) b question result }
+    ensures { (w : Whole) (rank : ℕ) (layout : Layout) (b : answers.Budget) (question : Question) (u : UnrolledFrame) → IsWithin w b →
+        IsFrameGround (frame_of w rank) w.contracts b.unroll layout u → AnswersFrame u question b.conflicts answered →
+        IsFrameCertificate w rank b question result }
 {
     match answered {
         FrameAnswered::Sat(_) => Certified::Satisfiable,
@@ -43,7 +45,7 @@ fn certified(answered: FrameAnswered) -> Certified
     }
 }
 
-/// What a question of an unrolled frame comes to, after its price.
+/// What a question of an unrolled frame comes to, where all frames are within the budgets.
 fn certify_unrolled(
     alloc: Global,
     budget: &Budget,
@@ -51,21 +53,59 @@ fn certify_unrolled(
     unrolled: &Unrolled,
 ) -> Result<Certified, AllocError>
     requires measurable { IsFrameMeasurable unrolled.now }
-    ensures { (p : Program) (invariants : List ℕ) (layout : Layout) → IsFrameUnrolledOf p invariants layout (budget_of budget.now) unrolled.now →
-        IfOk result (IsFrameCertificate (whole_of p invariants) (budget_of budget.now) (frame_question question)) }
+    ensures { (w : Whole) (rank : ℕ) (layout : Layout) → IsWithin w (budget_of budget.now) →
+        IsFrameUnrolled (frame_of w rank) w.contracts budget.now.unroll layout unrolled.now →
+        IfOk result (IsFrameCertificate w rank (budget_of budget.now) (frame_question question)) }
 {
-    let above = price_above(budget, unrolled)?;
-    if let Some(price) = above {
-        return Ok(Certified::Exceeded(Exceeded::Size { price }));
-    }
     let passive = passive_of_frame(alloc, unrolled)?;
     let answered = decide_frame(alloc, &passive, question, budget.conflicts)?;
     Ok(certified(answered))
 }
 
-/// What a question about the function at an address of an image, at which a row can stand, comes to, by its notes and within the budgets, whether it is due or
-/// not. `invariants` are the rising numbers of those assert lines of the notes that are invariants. Where there are none, the question about head states is true
-/// of nothing.
+/// What a question of the frame of the contract of a rank comes to by the notes that are the frame's, where all frames are within the budgets. The error is want of
+/// memory.
+fn certify_by_notes<'a, M: Machine>(
+    alloc: Global,
+    framed: &Framed<'a>,
+    notes: &'a Notes,
+    rank: usize,
+    budget: &Budget,
+    question: Asked,
+) -> Result<Certified, AllocError>
+    requires runs { CanUnroll M.machine framed.now }
+    requires rank { rank < length framed.now.contracts.now }
+    requires notes { IsNotesAt framed.now rank (notes_of notes.now) }
+    requires within { IsWithin (whole_of_framed M.machine framed.now) (budget_of budget.now) }
+    ensures { IfOk result (IsFrameCertificate (whole_of_framed M.machine framed.now) rank (budget_of budget.now) (frame_question question)) }
+{
+    let unrolled = unroll_within::<M>(alloc, framed, notes, rank, budget)?;
+    let certified = certify_unrolled(alloc, budget, question, &unrolled)?;
+    Ok(certified)
+}
+
+/// What a question of the frame of the contract of a rank comes to, where all frames are within the budgets. The error is want of memory.
+fn certify_contract<M: Machine>(
+    alloc: Global,
+    framed: &Framed,
+    rank: usize,
+    budget: &Budget,
+    question: Asked,
+) -> Result<Certified, AllocError>
+    requires runs { CanUnroll M.machine framed.now }
+    requires rank { rank < length framed.now.contracts.now }
+    requires within { IsWithin (whole_of_framed M.machine framed.now) (budget_of budget.now) }
+    ensures { IfOk result (IsFrameCertificate (whole_of_framed M.machine framed.now) rank (budget_of budget.now) (frame_question question)) }
+{
+    let notes = notes_of_rank(alloc, framed, rank)?;
+    let framed = *framed;
+    let certified = certify_by_notes::<M>(alloc, &framed, &notes, rank, budget, question)?;
+    Ok(certified)
+}
+
+/// What a question of a frame of the function at an address of an image comes to, at which a row can stand, by its notes and within the budgets, whether it is due
+/// or not. `invariants` are the rising numbers of those assert lines of the notes that are invariants, `contracts` those of the notes in the order of their ranks;
+/// the frame is that of the contract of a rank, or with as many as there are contracts for its rank the function's own. The budgets are over all frames. Where
+/// there are no heads, the question about head states is true of nothing.
 ///
 /// # Errors
 ///
@@ -75,24 +115,39 @@ pub fn certify_frame<'a, M: Machine>(
     image: &'a Image<'a>,
     notes: &'a Notes,
     invariants: &'a [u32],
+    contracts: &'a [Contract],
     entry: u32,
+    rank: usize,
     budget: &Budget,
     question: Asked,
 ) -> Result<Certified, AllocError>
     requires order { order_of image.now ≡ M.machine.endian }
     requires over { AreOver M.machine.has_register M.machine.has_flag (notes_of notes.now) }
     requires place { IsAtPlace M.machine.narrow entry }
-    ensures { IfOk result (IsFrameCertificate (whole_of (program_of M.machine image.now (notes_of notes.now) entry) invariants.now)
-        (budget_of budget.now) (frame_question question)) }
+    requires callable { All (λ x. IsCallable M.machine (contract_of x)) contracts.now }
+    requires rank { rank ≤ length contracts.now }
+    ensures { IfOk result (IsFrameCertificate (record {
+      program = program_of M.machine image.now (notes_of notes.now) entry;
+      invariants = invariants.now;
+      contracts = map contract_of contracts.now;
+    }) rank (budget_of budget.now) (frame_question question)) }
 {
-    match unroll_frame_within::<M>(alloc, image, notes, invariants, entry, budget) {
-        Ok(unrolled) => {
+    let framed = Framed {
+        image,
+        notes,
+        invariants,
+        contracts,
+        entry,
+    };
+    match measure::<M>(alloc, &framed, budget)? {
+        Weighed::Exceeded(past) => Ok(Certified::Exceeded(past)),
+        Weighed::Within(unrolled) => {
+            if rank < contracts.len() {
+                let certified = certify_contract::<M>(alloc, &framed, rank, budget, question)?;
+                return Ok(certified);
+            }
             let certified = certify_unrolled(alloc, budget, question, &unrolled)?;
             Ok(certified)
         }
-        Err(PointsFault::TooMany { count }) => {
-            Ok(Certified::Exceeded(Exceeded::Points { count }))
-        }
-        Err(PointsFault::Memory) => Err(AllocError),
     }
 }

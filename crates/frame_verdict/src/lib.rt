@@ -1,10 +1,14 @@
-//! The verdict on a function whose notes have invariants: its points, its price and its questions, each answer with what shows it. Its runs are cut at the
-//! addresses of the invariants, the heads, and judged segment by segment.
+//! The verdict on a function whose notes have invariants or contracts: the points and the price of its frames, and the questions of each, with what shows an
+//! answer. Runs of a frame are cut at the addresses of the invariants, the heads, and judged segment by segment, and calls of contracts of lower ranks are stepped
+//! over.
 #![tactic(auto)]
 
 mod certifying;
 mod framed;
+mod judged;
 mod measuring;
+mod ranking;
+mod ranks;
 mod scripting;
 mod segments;
 mod shown;
@@ -12,6 +16,6 @@ mod verdicts;
 mod verifying;
 
 pub use certifying::certify_frame;
+pub use ranking::verify_frame;
 pub use scripting::script_frame;
-pub use verdicts::FrameVerdict;
-pub use verifying::verify_frame;
+pub use verdicts::{FrameVerdict, Named, Passed};

@@ -1,12 +1,14 @@
-//! The scripts of the questions of a function of two files whose notes may have invariants, for another solver.
-ghost use Rattle.std.specs.Prelude.{◌≡◌, ℕ, List, IfOk, map, string_bytes};
+//! The scripts of the questions of a frame of a function of two files whose notes may have invariants or contracts, for another solver.
+ghost use Rattle.std.specs.Prelude.{◌≡◌, ◌≤◌, ◌<◌, ℕ, List, All, IfOk, length, map, string_bytes};
 ghost use Rattle.bilv_spec.specs.Files.{order_of, program_of};
-ghost use Rattle.bilv_spec.specs.Run.{Program};
 ghost use Rattle.call_form.specs.Views.{budget_of};
+ghost use Rattle.frame_spec.specs.FrameReports.{IsWithin};
+ghost use Rattle.frame_spec.specs.FrameVerdict.{Whole, frame_of};
 ghost use Rattle.frame_terms.specs.PassiveFrames.{IsPassive, IsWalkable};
 ghost use Rattle.known_bytes.specs.Runs.{AreRuns};
 ghost use Rattle.machine_spec.specs.Machine.{IsAtPlace};
 ghost use Rattle.machine_spec.specs.StateText.{Layout};
+ghost use Rattle.notes_value.specs.FrameViews.{contract_of};
 ghost use Rattle.notes_value.specs.NoteViews.{notes_of};
 ghost use Rattle.notes_value.specs.Reads.{AreOver};
 ghost use Rattle.question_form.specs.Asked as questions;
@@ -15,21 +17,22 @@ ghost use Rattle.question_form.specs.FrameViews.{frame_unrolled_of};
 ghost use Rattle.smtlib_print.specs.FrameTold.{TellsFrameScript};
 ghost use Rattle.smtlib_print.specs.Numbered.{AreOnce};
 ghost use Rattle.start_value.specs.Starts.{layout_of};
-ghost use Rattle.table_run.specs.FrameEnds.{whole_of};
-ghost use Rattle.frame_verdict.specs.FrameMeasures.{IsFrameMeasurable, IsFrameUnrolledOf};
+ghost use Rattle.frame_verdict.specs.FrameFunctions.{CanUnroll, IsCallable, IsNotesAt, whole_of_framed};
+ghost use Rattle.frame_verdict.specs.FrameMeasures.{IsFrameMeasurable, IsFrameUnrolled};
 ghost use Rattle.frame_verdict.specs.FrameScripted.{IsFrameScripted};
 
-use crate::measuring::{price_above, unroll_frame_within};
+use crate::framed::Framed;
+use crate::measuring::{Weighed, measure, unroll_within};
+use crate::ranks::notes_of_rank;
 use call_form::Budget;
 use elf32_reader::Image;
 use machine_law::Machine;
-use notes_value::Notes;
+use notes_value::{Contract, Notes};
 use passify::passive_of_frame;
-use program_points::PointsFault;
 use question_form::{Asked, Passive, Unrolled};
 use smtlib_print::frame_script;
 use std::alloc::{AllocError, Global};
-use verdict::{Exceeded, Scripted};
+use verdict::Scripted;
 use weakest_pre::frame_question;
 
 /// The script of a question of a passive program of a frame, in SMT-LIB 2.6. The error is want of memory, or of numbers for terms and points.
@@ -46,7 +49,7 @@ fn script_passive(alloc: Global, question: Asked, passive: &Passive) -> Result<S
     Ok(text)
 }
 
-/// The script of a question of an unrolled frame, after its price.
+/// The script of a question of an unrolled frame, where all frames are within the budgets.
 fn script_unrolled(
     alloc: Global,
     budget: &Budget,
@@ -55,21 +58,59 @@ fn script_unrolled(
 ) -> Result<Scripted, AllocError>
     requires measurable { IsFrameMeasurable unrolled.now }
     requires once { AreOnce (map (λ q. q.point) (frame_unrolled_of unrolled.now).points) }
-    ensures { (p : Program) (invariants : List ℕ) (layout : Layout) → IsFrameUnrolledOf p invariants layout (budget_of budget.now) unrolled.now →
-        IfOk result (IsFrameScripted (whole_of p invariants) layout (budget_of budget.now) (questions.frame_question question)) }
+    ensures { (w : Whole) (rank : ℕ) (layout : Layout) → IsWithin w (budget_of budget.now) →
+        IsFrameUnrolled (frame_of w rank) w.contracts budget.now.unroll layout unrolled.now →
+        IfOk result (IsFrameScripted w rank layout (budget_of budget.now) (questions.frame_question question)) }
 {
-    let above = price_above(budget, unrolled)?;
-    if let Some(price) = above {
-        return Ok(Scripted::Exceeded(Exceeded::Size { price }));
-    }
     let passive = passive_of_frame(alloc, unrolled)?;
     let text = script_passive(alloc, question, &passive)?;
     Ok(Scripted::Script(text))
 }
 
-/// The script of a question about the function at an address of an image, at which a row can stand, by its notes and within the budgets, in SMT-LIB 2.6,
-/// whether the question is due or not. `invariants` are the rising numbers of those assert lines of the notes that are invariants. Where there is a head, the
-/// script declares the head state too, whatever the question is.
+/// The script of a question of the frame of the contract of a rank by the notes that are the frame's, where all frames are within the budgets. The error is want of
+/// memory, or of numbers.
+fn script_by_notes<'a, M: Machine>(
+    alloc: Global,
+    framed: &Framed<'a>,
+    notes: &'a Notes,
+    rank: usize,
+    budget: &Budget,
+    question: Asked,
+) -> Result<Scripted, AllocError>
+    requires runs { CanUnroll M.machine framed.now }
+    requires rank { rank < length framed.now.contracts.now }
+    requires notes { IsNotesAt framed.now rank (notes_of notes.now) }
+    requires within { IsWithin (whole_of_framed M.machine framed.now) (budget_of budget.now) }
+    ensures { IfOk result (IsFrameScripted (whole_of_framed M.machine framed.now) rank M.form (budget_of budget.now) (questions.frame_question question)) }
+{
+    let unrolled = unroll_within::<M>(alloc, framed, notes, rank, budget)?;
+    let scripted = script_unrolled(alloc, budget, question, &unrolled)?;
+    Ok(scripted)
+}
+
+/// The script of a question of the frame of the contract of a rank, where all frames are within the budgets. The error is want of memory, or of numbers.
+fn script_contract<M: Machine>(
+    alloc: Global,
+    framed: &Framed,
+    rank: usize,
+    budget: &Budget,
+    question: Asked,
+) -> Result<Scripted, AllocError>
+    requires runs { CanUnroll M.machine framed.now }
+    requires rank { rank < length framed.now.contracts.now }
+    requires within { IsWithin (whole_of_framed M.machine framed.now) (budget_of budget.now) }
+    ensures { IfOk result (IsFrameScripted (whole_of_framed M.machine framed.now) rank M.form (budget_of budget.now) (questions.frame_question question)) }
+{
+    let notes = notes_of_rank(alloc, framed, rank)?;
+    let framed = *framed;
+    let scripted = script_by_notes::<M>(alloc, &framed, &notes, rank, budget, question)?;
+    Ok(scripted)
+}
+
+/// The script of a question about a frame of the function at an address of an image, at which a row can stand, by its notes and within the budgets, in SMT-LIB
+/// 2.6, whether the question is due or not. `invariants` are the rising numbers of those assert lines of the notes that are invariants, `contracts` those of the
+/// notes in the order of their ranks; the frame is that of the contract of a rank, or with as many as there are contracts for its rank the function's own. The
+/// budgets are over all frames. Where there is a head, the script declares the head state too, whatever the question is.
 ///
 /// # Errors
 ///
@@ -79,24 +120,39 @@ pub fn script_frame<'a, M: Machine>(
     image: &'a Image<'a>,
     notes: &'a Notes,
     invariants: &'a [u32],
+    contracts: &'a [Contract],
     entry: u32,
+    rank: usize,
     budget: &Budget,
     question: Asked,
 ) -> Result<Scripted, AllocError>
     requires order { order_of image.now ≡ M.machine.endian }
     requires over { AreOver M.machine.has_register M.machine.has_flag (notes_of notes.now) }
     requires place { IsAtPlace M.machine.narrow entry }
-    ensures { IfOk result (IsFrameScripted (whole_of (program_of M.machine image.now (notes_of notes.now) entry) invariants.now) M.form
-        (budget_of budget.now) (questions.frame_question question)) }
+    requires callable { All (λ x. IsCallable M.machine (contract_of x)) contracts.now }
+    requires rank { rank ≤ length contracts.now }
+    ensures { IfOk result (IsFrameScripted (record {
+      program = program_of M.machine image.now (notes_of notes.now) entry;
+      invariants = invariants.now;
+      contracts = map contract_of contracts.now;
+    }) rank M.form (budget_of budget.now) (questions.frame_question question)) }
 {
-    match unroll_frame_within::<M>(alloc, image, notes, invariants, entry, budget) {
-        Ok(unrolled) => {
+    let framed = Framed {
+        image,
+        notes,
+        invariants,
+        contracts,
+        entry,
+    };
+    match measure::<M>(alloc, &framed, budget)? {
+        Weighed::Exceeded(past) => Ok(Scripted::Exceeded(past)),
+        Weighed::Within(unrolled) => {
+            if rank < contracts.len() {
+                let scripted = script_contract::<M>(alloc, &framed, rank, budget, question)?;
+                return Ok(scripted);
+            }
             let scripted = script_unrolled(alloc, budget, question, &unrolled)?;
             Ok(scripted)
         }
-        Err(PointsFault::TooMany { count }) => {
-            Ok(Scripted::Exceeded(Exceeded::Points { count }))
-        }
-        Err(PointsFault::Memory) => Err(AllocError),
     }
 }

@@ -1,38 +1,40 @@
 //! The runs that show a verdict.
-ghost use Rattle.std.specs.Prelude.{◌≡◌, ◌≢◌, ◌<◌, ◌-◌, ℕ, List, true, false, IfOk, MatchOption, length, option_map};
+ghost use Rattle.std.specs.Prelude.{◌≡◌, ◌≢◌, ◌<◌, ◌≤◌, ◌-◌, ℕ, List, [], None, Some, true, false, IfOk, IfSome, MatchOption, length, map, option_map};
 ghost use Rattle.bilv_spec.specs.Points.{is_known_at};
-ghost use Rattle.frame_spec.specs.FrameQuestions.{FailQuestion, IsSatisfiable, StepQuestion, TurnQuestion};
+ghost use Rattle.frame_spec.specs.FrameFound.{Found};
 ghost use Rattle.frame_spec.specs.FrameReports.{head_of};
+ghost use Rattle.frame_texts_spec.specs.CallReplays.{WrongAt};
+ghost use Rattle.frame_text.specs.Texts.{framed_event_of};
 ghost use Rattle.machine_spec.specs.StateText.{IsWritten};
 ghost use Rattle.program_points.specs.Listed.{anchor_of};
 ghost use Rattle.question_form.specs.Asked.{frame_question};
 ghost use Rattle.start_value.specs.Starts.{written_of};
 ghost use Rattle.state_text.specs.Starts.{written_head_of};
-ghost use Rattle.table_run.specs.FrameEnds.{frame_found_of};
+ghost use Rattle.table_run.specs.CalledFrames.{called_event_of};
+ghost use Rattle.table_run.specs.CalledRuns.{IsFoundAs, cause_of};
+ghost use Rattle.table_run.specs.FrameEnds.{frame_found_of, frame_of, whole_of};
 ghost use Rattle.frame_rounds.specs.FrameGrounds.{AreSegments};
-ghost use Rattle.frame_verdict.specs.FrameVerdicts.{IsFrameVerdict};
-ghost use Rattle.frame_verdict.specs.FrameFunctions.{CanRun, IsReady, frame_of_framed, program_of_framed};
+ghost use Rattle.frame_verdict.specs.FrameFunctions.{CanRun, IsReady, frame_at, frame_of_framed, program_of_framed, whole_of_framed};
+ghost use Rattle.frame_verdict.specs.FrameVerdicts.{named_of};
 ghost use Rattle.frame_verdict.specs.ShownEnds as specs;
-ghost use Rattle.frame_verdict.specs.ShownEnds.{EndsAsAsked, IsEndOf, IsEnded, IsHeadFor, IsHeadWritten, start_of};
+ghost use Rattle.frame_verdict.specs.ShownEnds.{CanEnd, EndsAsAsked, IsCame, IsEndOf, IsEnded, IsHeadFor, IsHeadWritten, IsShownAt, named_in, shown_of, start_of};
 
-use crate::FrameVerdict;
 use crate::framed::Framed;
+use crate::judged::Ended;
 use crate::segments::{Shown, shown_of_root};
+use crate::verdicts::Named;
 use call_form::Budget;
 use frame_start::Segments;
+use frame_text::FramedEvent;
 use machine_law::Machine;
 use program_points::Root;
 use question_form::{Asked, Unrolled};
 use state_text::HeadStart;
 use std::alloc::{AllocError, Global};
-use table_run::{FrameEnding, head_ok, head_state, run_frame, start_state};
-
-/// A start as it is shown, and what its segment comes to.
-#[derive(Drop)]
-pub struct Ended {
-    pub shown: Shown,
-    pub ending: FrameEnding,
-}
+use table_run::{
+    CalledEnding, CalledEvent, FrameEnding, RankedFrame, head_ok, head_state, made_calls,
+    run_called, run_frame, start_state,
+};
 
 /// Whether a written head state is one for an entry state: its invariants are true. The error is want of memory.
 fn is_head_for<M: Machine>(
@@ -99,6 +101,142 @@ fn ending<M: Machine>(
     Ok(Some(ending))
 }
 
+/// How a segment ends, if by an event or by one backward transfer too many.
+fn named(ending: FrameEnding) -> Option<Named>
+    ensures { option_map named_of result ≡ named_in (frame_found_of ending) }
+{
+    match ending {
+        FrameEnding::Failed { event, at, step } => Some(Named::Failed {
+            event: FramedEvent::of(event),
+            at,
+            step,
+        }),
+        FrameEnding::Turned { at, step } => Some(Named::Turned { at, step }),
+        FrameEnding::Exit { .. } => None,
+        FrameEnding::Cut { .. } => None,
+        FrameEnding::Left { .. } => None,
+    }
+}
+
+/// The event of a frame that steps over contracts.
+fn framed_event(event: CalledEvent) -> FramedEvent
+    ensures { framed_event_of result ≡ called_event_of event }
+{
+    match event {
+        CalledEvent::OfStep(event) => FramedEvent::OfStep(event),
+        CalledEvent::NeedsFails { line } => FramedEvent::NeedsFails { line: line as u64 },
+        CalledEvent::WritesFails => FramedEvent::WritesFails,
+        CalledEvent::GivesFails { line } => FramedEvent::GivesFails { line: line as u64 },
+        CalledEvent::ModifiesFails => FramedEvent::ModifiesFails,
+    }
+}
+
+/// So of a run that steps over contracts, none of whose blocks is wrong.
+fn named_called(ending: CalledEnding) -> Option<Named>
+    ensures some { (x : Found) → IsFoundAs ending x → IfSome result (λ n. named_in x ≡ Some (named_of n)) }
+    ensures right { IfSome result (λ n. cause_of ending ≡ None) }
+    ensures none { (x : Found) → IsFoundAs ending x → ((step : ℕ) → cause_of ending ≢ Some (WrongAt step)) → result ≡ None → named_in x ≡ None }
+{
+    match ending {
+        CalledEnding::Failed { event, at, step } => Some(Named::Failed {
+            event: framed_event(event),
+            at,
+            step,
+        }),
+        CalledEnding::Turned { at, step } => Some(Named::Turned { at, step }),
+        CalledEnding::Exit { .. } => None,
+        CalledEnding::Left { .. } => None,
+        CalledEnding::NoCall { .. } => None,
+        CalledEnding::NotGiven { .. } => None,
+    }
+}
+
+/// What the segment that is shown comes to in a frame that steps over no contract, if it ends by an event or by one backward transfer too many, and begins in a
+/// head state, where it begins at a head. The error is want of memory.
+fn segment_end<M: Machine>(
+    alloc: Global,
+    framed: &Framed,
+    budget: &Budget,
+    shown: Shown,
+) -> Result<Option<Ended>, AllocError>
+    requires runs { CanRun M.machine framed.now }
+    requires shown { IsShownAt (whole_of (program_of_framed M.machine framed.now) framed.now.invariants.now) 0 M.form (shown_of shown) }
+    requires head { IsHeadWritten (program_of_framed M.machine framed.now) framed.now.invariants.now M.form shown.head }
+    requires none { shown.calls.items ≡ [] }
+    ensures { IfOk result (IsCame (whole_of (program_of_framed M.machine framed.now) framed.now.invariants.now) 0 budget.now.unroll budget.now.points M.form
+        (shown_of shown)) }
+{
+    match ending::<M>(alloc, framed, budget, &shown)? {
+        None => Ok(None),
+        Some(ending) => match named(ending) {
+            None => Ok(None),
+            Some(ending) => Ok(Some(Ended {
+                shown,
+                called: false,
+                ending,
+            })),
+        },
+    }
+}
+
+/// What the run that is shown comes to in the frame of a rank, which may step over contracts and has no head, if it ends by an event or by one backward transfer
+/// too many. Of what contract steps are given that stays which they take. The error is want of memory.
+fn called_end<M: Machine>(
+    alloc: Global,
+    framed: &Framed,
+    budget: &Budget,
+    rank: usize,
+    shown: Shown,
+) -> Result<Option<Ended>, AllocError>
+    requires runs { CanRun M.machine framed.now }
+    requires some { framed.now.contracts.now ≢ [] }
+    requires rank { rank ≤ length framed.now.contracts.now }
+    requires ends { CanEnd M.machine M.form framed.now budget.now rank shown }
+    ensures { IfOk result (IsCame (whole_of_framed M.machine framed.now) rank budget.now.unroll budget.now.points M.form (shown_of shown)) }
+{
+    let frame = RankedFrame {
+        image: framed.image,
+        notes: framed.notes,
+        contracts: framed.contracts,
+        entry: framed.entry,
+        rank,
+    };
+    let (k, limit) = (budget.unroll, budget.points);
+    let Shown { start, head, calls } = shown;
+    let calls = made_calls::<M>(alloc, &frame, &start, &calls, k, limit)?;
+    let run = run_called::<M>(alloc, &frame, &start, &calls, Some(k), limit)?;
+    match named_called(run.ending) {
+        None => Ok(None),
+        Some(ending) => Ok(Some(Ended {
+            shown: Shown { start, head, calls },
+            called: run.called,
+            ending,
+        })),
+    }
+}
+
+/// What the segment that is shown comes to in the frame of a rank, if it ends by an event or by one backward transfer too many, and begins in a head state, where
+/// it begins at a head. The error is want of memory.
+fn came_to<M: Machine>(
+    alloc: Global,
+    framed: &Framed,
+    budget: &Budget,
+    rank: usize,
+    shown: Shown,
+) -> Result<Option<Ended>, AllocError>
+    requires runs { CanRun M.machine framed.now }
+    requires rank { rank ≤ length framed.now.contracts.now }
+    requires ends { CanEnd M.machine M.form framed.now budget.now rank shown }
+    ensures { IfOk result (IsCame (whole_of_framed M.machine framed.now) rank budget.now.unroll budget.now.points M.form (shown_of shown)) }
+{
+    if framed.contracts.is_empty() {
+        let came = segment_end::<M>(alloc, framed, budget, shown)?;
+        return Ok(came);
+    }
+    let came = called_end::<M>(alloc, framed, budget, rank, shown)?;
+    Ok(came)
+}
+
 /// Whether a question asks for segments that begin there.
 fn wants(asked: Asked, head: Option<Root>) -> bool
     ensures { (stacks : List (List ℕ)) → result ≡ specs.wants_anchor (frame_question asked) (anchor_of stacks head) }
@@ -112,13 +250,13 @@ fn wants(asked: Asked, head: Option<Root>) -> bool
 }
 
 /// Whether a segment ended as a question asks: by an event, or by one backward transfer too many.
-fn is_end(asked: Asked, ending: FrameEnding) -> bool
-    ensures { result ≡ specs.is_end (frame_question asked) (frame_found_of ending) }
+fn is_end(asked: Asked, ending: Named) -> bool
+    ensures { result ≡ specs.is_end (frame_question asked) (named_of ending) }
 {
     match asked {
         Asked::Entry => false,
-        Asked::Fail | Asked::Step => matches!(ending, FrameEnding::Failed { .. }),
-        Asked::Turn => matches!(ending, FrameEnding::Turned { .. }),
+        Asked::Fail | Asked::Step => matches!(ending, Named::Failed { .. }),
+        Asked::Turn => matches!(ending, Named::Turned { .. }),
     }
 }
 
@@ -127,28 +265,28 @@ fn try_root<M: Machine>(
     alloc: Global,
     framed: &Framed,
     budget: &Budget,
+    rank: usize,
     unrolled: &Unrolled,
     segments: &Segments,
     asked: Asked,
     root: usize,
 ) -> Result<Option<Ended>, AllocError>
-    requires ready { IsReady M.machine M.form framed.now budget.now unrolled.now }
-    requires segments { AreSegments (frame_of_framed M.machine framed.now) budget.now.unroll M.form (frame_question asked) unrolled.now segments.now }
+    requires ready { IsReady M.machine M.form framed.now budget.now rank unrolled.now }
+    requires segments { AreSegments (frame_at M.machine framed.now rank) budget.now.unroll M.form (frame_question asked) unrolled.now segments.now }
     requires root { root < length unrolled.now.roots.items }
     ensures { IfOk result (λ o. MatchOption o
-        (¬ EndsAsAsked (program_of_framed M.machine framed.now) framed.now.invariants.now budget.now.unroll M.form (frame_question asked) unrolled.now
-        segments.now root)
-        (IsEnded (program_of_framed M.machine framed.now) framed.now.invariants.now budget.now.unroll (budget.now.points - 1) M.form (frame_question asked))) }
+        (¬ EndsAsAsked (whole_of_framed M.machine framed.now) rank budget.now.unroll M.form (frame_question asked) unrolled.now segments.now root)
+        (IsEnded (whole_of_framed M.machine framed.now) rank budget.now.unroll M.form (frame_question asked))) }
 {
     if !wants(asked, unrolled.roots[root].head) {
         return Ok(None);
     }
     let shown = shown_of_root(alloc, unrolled, segments, root)?;
-    match ending::<M>(alloc, framed, budget, &shown)? {
+    match came_to::<M>(alloc, framed, budget, rank, shown)? {
         None => Ok(None),
-        Some(ending) => {
-            if is_end(asked, ending) {
-                return Ok(Some(Ended { shown, ending }));
+        Some(ended) => {
+            if is_end(asked, ended.ending) {
+                return Ok(Some(ended));
             }
             Ok(None)
         }
@@ -156,119 +294,25 @@ fn try_root<M: Machine>(
 }
 
 /// The first start that is shown whose segment ends as a question other than the entry's asks, of those roots for which it asks. The error is want of memory.
-fn first_ended<M: Machine>(
+pub fn first_ended<M: Machine>(
     alloc: Global,
     framed: &Framed,
     budget: &Budget,
+    rank: usize,
     unrolled: &Unrolled,
     segments: &Segments,
     asked: Asked,
 ) -> Result<Ended, AllocError>
-    requires ready { IsReady M.machine M.form framed.now budget.now unrolled.now }
-    requires segments { AreSegments (frame_of_framed M.machine framed.now) budget.now.unroll M.form (frame_question asked) unrolled.now segments.now }
+    requires ready { IsReady M.machine M.form framed.now budget.now rank unrolled.now }
+    requires segments { AreSegments (frame_at M.machine framed.now rank) budget.now.unroll M.form (frame_question asked) unrolled.now segments.now }
     requires later { asked ≢ Asked.Entry }
-    ensures { IfOk result (IsEnded (program_of_framed M.machine framed.now) framed.now.invariants.now budget.now.unroll (budget.now.points - 1) M.form
-        (frame_question asked)) }
+    ensures { IfOk result (IsEnded (whole_of_framed M.machine framed.now) rank budget.now.unroll M.form (frame_question asked)) }
 {
     for root in 0..unrolled.roots.len() {
-        let tried = try_root::<M>(alloc, framed, budget, unrolled, segments, asked, root)?;
+        let tried = try_root::<M>(alloc, framed, budget, rank, unrolled, segments, asked, root)?;
         if let Some(ended) = tried {
             return Ok(ended);
         }
     }
     unreachable!()
-}
-
-/// The verdict that some segment from an entry state fails, with its event.
-pub fn failing<M: Machine>(
-    alloc: Global,
-    framed: &Framed,
-    budget: &Budget,
-    unrolled: &Unrolled,
-    segments: &Segments,
-) -> Result<FrameVerdict, AllocError>
-    requires ready { IsReady M.machine M.form framed.now budget.now unrolled.now }
-    requires fails { AreSegments (frame_of_framed M.machine framed.now) budget.now.unroll M.form FailQuestion unrolled.now segments.now }
-    ensures { IfOk result (λ v. IsFrameVerdict (program_of_framed M.machine framed.now) framed.now.invariants.now M.form budget.now v) }
-{
-    let ended = first_ended::<M>(alloc, framed, budget, unrolled, segments, Asked::Fail)?;
-    match ended.ending {
-        FrameEnding::Failed { event, at, step } => Ok(FrameVerdict::Fails {
-            event,
-            at,
-            step,
-            start: ended.shown.start,
-        }),
-        _ => unreachable!(),
-    }
-}
-
-/// The verdict that some segment from a head state fails, with its event, where none from an entry state does.
-pub fn stepping<M: Machine>(
-    alloc: Global,
-    framed: &Framed,
-    budget: &Budget,
-    unrolled: &Unrolled,
-    segments: &Segments,
-) -> Result<FrameVerdict, AllocError>
-    requires ready { IsReady M.machine M.form framed.now budget.now unrolled.now }
-    requires never { ¬ IsSatisfiable (frame_of_framed M.machine framed.now) budget.now.unroll FailQuestion }
-    requires fails { AreSegments (frame_of_framed M.machine framed.now) budget.now.unroll M.form StepQuestion unrolled.now segments.now }
-    ensures { IfOk result (λ v. IsFrameVerdict (program_of_framed M.machine framed.now) framed.now.invariants.now M.form budget.now v) }
-{
-    let Ended { shown, ending } = first_ended::<M>(
-        alloc,
-        framed,
-        budget,
-        unrolled,
-        segments,
-        Asked::Step,
-    )?;
-    let Shown { start, head } = shown;
-    let Some(head) = head else {
-        unreachable!();
-    };
-    match ending {
-        FrameEnding::Failed { event, at, step } => Ok(FrameVerdict::NotInductive {
-            event,
-            at,
-            step,
-            start,
-            head,
-        }),
-        _ => unreachable!(),
-    }
-}
-
-/// The verdict that some segment makes one backward transfer too many, with its last step, where none fails.
-pub fn turning<M: Machine>(
-    alloc: Global,
-    framed: &Framed,
-    budget: &Budget,
-    unrolled: &Unrolled,
-    segments: &Segments,
-) -> Result<FrameVerdict, AllocError>
-    requires ready { IsReady M.machine M.form framed.now budget.now unrolled.now }
-    requires never { ¬ IsSatisfiable (frame_of_framed M.machine framed.now) budget.now.unroll FailQuestion }
-    requires none { ¬ IsSatisfiable (frame_of_framed M.machine framed.now) budget.now.unroll StepQuestion }
-    requires turns { AreSegments (frame_of_framed M.machine framed.now) budget.now.unroll M.form TurnQuestion unrolled.now segments.now }
-    ensures { IfOk result (λ v. IsFrameVerdict (program_of_framed M.machine framed.now) framed.now.invariants.now M.form budget.now v) }
-{
-    let Ended { shown, ending } = first_ended::<M>(
-        alloc,
-        framed,
-        budget,
-        unrolled,
-        segments,
-        Asked::Turn,
-    )?;
-    match ending {
-        FrameEnding::Turned { at, step } => Ok(FrameVerdict::Unroll {
-            at,
-            step,
-            start: shown.start,
-            head: shown.head,
-        }),
-        _ => unreachable!(),
-    }
 }

@@ -1,15 +1,78 @@
-use Rattle.std.proofs.Common.{◌∙◌}
-use Rattle.bilv_spec.specs.Files.{program_of}
-use Rattle.notes_value.specs.NoteViews.{notes_of}
-use Rattle.frame_verdict.proofs.Wholes.{too_many}
+use Rattle.frame_verdict.specs.FrameFunctions.{whole_of_framed}
+use Rattle.frame_verdict.specs.declared.framed.Framed.{Framed}
+use Rattle.frame_verdict.proofs.Ready.{all_within, exceeded, last_of, own_unrolled}
 use Rattle.frame_verdict.proofs.scripting.script_frame.Goals as goal
 
-pub script_unrolled-requires-clause-once : goal.script_unrolled-requires-clause-once
-script_unrolled-requires-clause-once g c = c.in-Ok.ensures.unrolled.ground.unrolling.points.once
+pub measure-requires : goal.measure-requires
+measure-requires g c = record {
+  runs = record {
+    order = c.requires.order;
+    over = c.requires.over;
+    place = c.requires.place;
+    callable = c.requires.callable;
+  };
+}
 
-pub returns-in-Err-TooMany : goal.returns-in-Err-TooMany
-returns-in-Err-TooMany g c =
-    let many = too_many (program_of g.M.Machine.machine c.args.image.now (notes_of c.args.notes.now) c.args.entry) c.args.invariants.now
-    c.args.budget.now.unroll c.args.budget.now.points c.in-Err-TooMany.count c.in-Err-TooMany.field-0 c.in-Err-TooMany.ensures.more
-    c.in-Err-TooMany.field-0-is in
-    (many.0, c.in-Err-TooMany.count-is ∙ many.1)
+pub returns-in-Exceeded : goal.returns-in-Exceeded
+returns-in-Exceeded g c =
+    let x : Framed = record {
+      image = c.args.image;
+      notes = c.args.notes;
+      invariants = c.args.invariants;
+      contracts = c.args.contracts;
+      entry = c.args.entry;
+    } in
+    exceeded (whole_of_framed g.M.Machine.machine x) g.M.Machine.form c.args.budget.now c.in-Exceeded.past c.in_ok-past.field-0 c.in_ok-past.ensures
+    c.in-Exceeded.is
+
+pub script_contract-requires-clause-within : goal.script_contract-requires-clause-within
+script_contract-requires-clause-within g c =
+    let x : Framed = record {
+      image = c.args.image;
+      notes = c.args.notes;
+      invariants = c.args.invariants;
+      contracts = c.args.contracts;
+      entry = c.args.entry;
+    } in
+    all_within g.M.Machine.machine g.M.Machine.form x c.args.budget.now c.in-Within.unrolled c.in_ok-past.field-0 c.in_ok-past.ensures c.in-Within.is
+
+pub script_unrolled-requires-clause-measurable : goal.script_unrolled-requires-clause-measurable
+script_unrolled-requires-clause-measurable g c =
+    let x : Framed = record {
+      image = c.args.image;
+      notes = c.args.notes;
+      invariants = c.args.invariants;
+      contracts = c.args.contracts;
+      entry = c.args.entry;
+    } in
+    (own_unrolled g.M.Machine.machine g.M.Machine.form x c.args.budget.now c.in-Within.unrolled c.in_ok-past.field-0 c.in_ok-past.ensures c.in-Within.is
+    c.args.rank (last_of x c.args.rank c.requires.rank c.if-rank-contracts.false)).measurable
+
+pub script_unrolled-requires-clause-once : goal.script_unrolled-requires-clause-once
+script_unrolled-requires-clause-once g c =
+    let x : Framed = record {
+      image = c.args.image;
+      notes = c.args.notes;
+      invariants = c.args.invariants;
+      contracts = c.args.contracts;
+      entry = c.args.entry;
+    } in
+    (own_unrolled g.M.Machine.machine g.M.Machine.form x c.args.budget.now c.in-Within.unrolled c.in_ok-past.field-0 c.in_ok-past.ensures c.in-Within.is
+    c.args.rank (last_of x c.args.rank c.requires.rank c.if-rank-contracts.false)).ground.unrolling.points.once
+
+pub returns-in_ok-scripted-in-Within-2 : goal.returns-in_ok-scripted-in-Within-2
+returns-in_ok-scripted-in-Within-2 g c =
+    let x : Framed = record {
+      image = c.args.image;
+      notes = c.args.notes;
+      invariants = c.args.invariants;
+      contracts = c.args.contracts;
+      entry = c.args.entry;
+    } in
+    let m = g.M.Machine.machine in
+    let b = c.args.budget.now in
+    let form = g.M.Machine.form in
+    c.in_ok-scripted-in-Within-2.ensures (whole_of_framed m x) c.args.rank form
+    (all_within m form x b c.in-Within.unrolled c.in_ok-past.field-0 c.in_ok-past.ensures c.in-Within.is)
+    (own_unrolled m form x b c.in-Within.unrolled c.in_ok-past.field-0 c.in_ok-past.ensures c.in-Within.is c.args.rank
+    (last_of x c.args.rank c.requires.rank c.if-rank-contracts.false))

@@ -1,0 +1,68 @@
+-- What frames within the budgets come to, for the function's own.
+use Rattle.std.proofs.Common.{◌≡◌, ◌≢◌, ◌≤◌, ◌∙◌, arith, ℕ, Bool, true, false, List, [], ◌∷◌, refl, sym, subst, length}
+use Rattle.std.specs.Prelude.{◌==◌}
+use Rattle.std.proofs.lemmas.Bool.Decides.{nat_tests}
+use Rattle.std.proofs.lemmas.List.{length-map}
+use Rattle.machine_spec.specs.Machine.{Machine}
+use Rattle.machine_spec.specs.StateText.{Layout}
+use Rattle.call_form.specs.Views.{budget_of}
+use Rattle.call_form.specs.declared.budget.Budget.{Budget}
+use Rattle.frame_spec.specs.FrameReports.{IsWithin, last_rank}
+use Rattle.frame_spec.specs.FrameVerdict.{Whole}
+use Rattle.notes_value.specs.FrameViews.{contract_of}
+use Rattle.question_form.specs.declared.unrolled.Unrolled.{Unrolled}
+use Rattle.verdict.specs.declared.verdicts.Exceeded as past
+use Rattle.verdict.specs.declared.verdicts.Exceeded.TheVariants.{Points, Size}
+use Rattle.frame_verdict.specs.FrameCertificates.{IsFrameExceeded}
+use Rattle.frame_verdict.specs.FrameFunctions.{CanRun, IsReady, contracts_of, frame_at, whole_of_framed}
+use Rattle.frame_verdict.specs.FrameMeasures.{IsFrameUnrolled, IsWeighed}
+use Rattle.frame_verdict.specs.FrameVerdicts.{IsFrameVerdict}
+use Rattle.frame_verdict.specs.declared.framed.Framed.{Framed}
+use Rattle.frame_verdict.specs.declared.measuring.Weighed.{Weighed}
+use Rattle.frame_verdict.specs.declared.measuring.Weighed.TheVariants.{Within, Exceeded}
+use Rattle.frame_verdict.specs.declared.verdicts.FrameVerdict.TheVariants as verdict
+
+-- a budget does not suffice
+pub exceeded : (w : Whole) (layout : Layout) (b : Budget) (e : past.Exceeded) (y : Weighed) → IsWeighed w layout (budget_of b) y → y ≡ Exceeded e →
+    IsFrameExceeded w (budget_of b) e
+exceeded w layout b e y h is = subst (IsWeighed w layout (budget_of b)) is h
+
+pub exceeded_verdict : (w : Whole) (layout : Layout) (b : Budget) (e : past.Exceeded) → IsFrameExceeded w (budget_of b) e →
+    IsFrameVerdict w layout b (verdict.Exceeded e)
+exceeded_verdict w layout b (Points count) h = h
+exceeded_verdict w layout b (Size price) h = h
+
+-- the budgets suffice, and the function's own frame is unrolled
+module _ (m : Machine) (form : Layout) (x : Framed) (b : Budget) (u : Unrolled) (y : Weighed)
+    (h : IsWeighed (whole_of_framed m x) form (budget_of b) y) (is : y ≡ Within u) where
+  weighed : IsWeighed (whole_of_framed m x) form (budget_of b) (Within u)
+  weighed = subst (IsWeighed (whole_of_framed m x) form (budget_of b)) is h
+
+  pub all_within : IsWithin (whole_of_framed m x) (budget_of b)
+  all_within = weighed.0
+
+  pub own_unrolled : (rank : ℕ) → rank ≡ length x.contracts.now → IsFrameUnrolled (frame_at m x rank) (contracts_of x) b.unroll form u
+  own_unrolled rank last =
+      let e : last_rank (whole_of_framed m x) ≡ rank = length-map x.contracts.now contract_of ∙ sym last in
+      subst (λ (r : ℕ). IsFrameUnrolled (frame_at m x r) (contracts_of x) b.unroll form u) e weighed.1
+
+  pub own_ready : CanRun m x → IsReady m form x b (length x.contracts.now) u
+  own_ready runs = record {
+    runs = runs;
+    ranked = omega arith;
+    within = weighed.0;
+    unrolled = own_unrolled (length x.contracts.now) refl;
+  }
+
+-- a rank that is no contract's is the function's own
+pub last_of : (x : Framed) (rank : ℕ) → rank ≤ length x.contracts.now → length x.contracts.now ≤ rank → rank ≡ length x.contracts.now
+last_of x rank low high = omega arith
+
+-- a list whose length is tested
+pub none_if : {A : Type 0} (l : List A) (e : Bool) → e ≡ (length l == 0) → e ≡ true → l ≡ []
+none_if [] e is t = refl
+none_if (x ∷ l) e is t = absurd (let z : (length (x ∷ l) == 0) ≡ true = sym is ∙ t in grind (arith, z, nat_tests))
+
+pub some_if : {A : Type 0} (l : List A) (e : Bool) → e ≡ (length l == 0) → e ≡ false → l ≢ []
+some_if [] e is f q = let z : true ≡ false = sym is ∙ f in cc
+some_if (x ∷ l) e is f q = cc

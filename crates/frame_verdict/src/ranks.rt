@@ -1,0 +1,103 @@
+//! The frames of a function of two files by their ranks, unrolled: those of its contracts in their order, and last the function's own.
+ghost use Rattle.std.specs.Prelude.{◌≡◌, ◌≤◌, ◌<◌, ◌^◌, Contains, IfErr, IfOk, length};
+ghost use Rattle.bilv_spec.specs.Files.{program_of};
+ghost use Rattle.bilv_spec.specs.Notes.{Assert};
+ghost use Rattle.frame_spec.specs.FrameVerdict.{frame_of};
+ghost use Rattle.machine_spec.specs.Machine.{Machine as Tables};
+ghost use Rattle.notes_value.specs.NoteViews.{notes_of};
+ghost use Rattle.notes_value.specs.declared.notes.Contract.{Contract as Listed};
+ghost use Rattle.program_points.specs.Listed.{HasTooMany};
+ghost use Rattle.unroller.specs.Frames.{parts_frame};
+ghost use Rattle.frame_verdict.specs.FrameFunctions.{CanUnroll, IsNotesAt, contracts_of, frame_at, whole_of_framed};
+ghost use Rattle.frame_verdict.specs.FrameMeasures.{IsFrameUnrolled};
+
+use crate::framed::Framed;
+use flow_graph::descend;
+use machine_law::Machine;
+use notes_value::Notes;
+use program_points::PointsFault;
+use question_form::Unrolled;
+use rank_notes::contract_notes;
+use std::alloc::{AllocError, Global};
+use unroller::{FrameParts, unroll_contracted};
+
+/// Assert lines are at addresses of 32 bits.
+fn places_are_words(notes: &Notes)
+    ensures { (a : Assert) → Contains (notes_of notes.now).asserts a → a.at < 2 ^ 32 }
+{
+    for line in &notes.asserts {
+        let at = line.at;
+        prove!(at <= u32::MAX);
+    }
+}
+
+/// What makes the frame of a rank, with the notes that are the frame's.
+fn parts_of<'a>(framed: &Framed<'a>, notes: &'a Notes, rank: usize) -> FrameParts<'a>
+    requires rank { rank ≤ length framed.now.contracts.now }
+    requires notes { IsNotesAt framed.now rank (notes_of notes.now) }
+    ensures frame { (m : Tables) → parts_frame (program_of m framed.now.image.now (notes_of result.notes.now) result.entry) result ≡ frame_at m framed.now rank }
+    ensures notes { result.notes.now ≡ notes.now }
+    ensures contracts { result.contracts.now ≡ framed.now.contracts.now }
+    ensures stepped { (x : Listed) → Contains result.stepped.now x → Contains framed.now.contracts.now x }
+    ensures low { result.entry < 2 ^ 32 }
+{
+    if rank == framed.contracts.len() {
+        return FrameParts {
+            notes,
+            invariants: framed.invariants,
+            entry: framed.entry,
+            stepped: framed.contracts,
+            own: None,
+            contracts: framed.contracts,
+        };
+    }
+    let own = &framed.contracts[rank];
+    let entry = own.at;
+    prove!(entry <= u32::MAX);
+    FrameParts {
+        notes,
+        invariants: framed.invariants,
+        entry,
+        stepped: &framed.contracts[..rank],
+        own: Some(own),
+        contracts: framed.contracts,
+    }
+}
+
+/// The notes of the frame of the contract of a rank, in memory of their own. The error is want of memory.
+pub fn notes_of_rank(alloc: Global, framed: &Framed, rank: usize) -> Result<Notes, AllocError>
+    requires { rank < length framed.now.contracts.now }
+    ensures { IfOk result (λ n. IsNotesAt framed.now rank (notes_of n)) }
+{
+    let notes = contract_notes(alloc, framed.notes, &framed.contracts[rank])?;
+    Ok(notes)
+}
+
+/// The frame of a rank, unrolled by the notes that are the frame's: those of the file for the function's own.
+///
+/// # Errors
+///
+/// `TooMany` with one point more than `max` where there are more points; want of memory.
+pub fn unroll_rank<'a, M: Machine>(
+    alloc: Global,
+    framed: &Framed<'a>,
+    notes: &'a Notes,
+    rank: usize,
+    k: u64,
+    max: u64,
+) -> Result<Unrolled<'a>, PointsFault>
+    requires runs { CanUnroll M.machine framed.now }
+    requires rank { rank ≤ length framed.now.contracts.now }
+    requires notes { IsNotesAt framed.now rank (notes_of notes.now) }
+    requires k { k ≤ 4096 }
+    requires max { max ≤ 16777216 }
+    ensures unrolled { IfOk result (IsFrameUnrolled (frame_at M.machine framed.now rank) (contracts_of framed.now) k M.form) }
+    ensures few { IfOk result (λ u. length u.points.items ≤ max) }
+    ensures more { IfErr result (HasTooMany (frame_at M.machine framed.now rank) k max) }
+{
+    framed.image.bytes();
+    places_are_words(notes);
+    let parts = parts_of(framed, notes, rank);
+    let graph = descend::<M>(alloc, framed.image, parts.notes, parts.entry)?;
+    unroll_contracted::<M>(alloc, &graph, framed.image, &parts, k, max)
+}
