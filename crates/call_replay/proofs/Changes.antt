@@ -101,6 +101,9 @@ module _ (w : Whole) (l items : List ContractChanges) (alike : l ≡ items)
   program_changes : (a : ℕ) → changes_at l a ≡ replays.changes_of w a
   program_changes a = ap (λ (z : List ContractChanges). changes_at z a) alike ∙ same a ∙ said_by w a
 
+  pub changes_whole : changes_at l ≡ replays.changes_of w
+  changes_whole = fun_ext program_changes
+
   pub are_of_layout : (layout : Layout) (all : FrameName → Checks) → HasContracts layout w → AreOfLayout layout (checks_by all l)
   are_of_layout layout all has a x found =
       changes_are_of_layout layout w (λ k. false) has a x (sym (program_changes a) ∙ found)

@@ -1,9 +1,8 @@
 -- The answer to a report by the first of its causes.
-use Rattle.std.proofs.Common.{◌≡◌, ℕ, ◌-◌, ◌≤◌, ◌<◌, ◌+◌, ◌%◌, ◌++◌, List, [], ◌∷◌, length, true, false, ap, sym, ◌∙◌, subst, arith, append_assoc, ne_eqb, eq-eqb}
-use Rattle.std.specs.Prelude.{Bool, Option, Some, None, if◌then◌else◌, is_some, nat_lt, codes}
+use Rattle.std.proofs.Common.{◌≡◌, ℕ, ◌-◌, ◌≤◌, ◌<◌, ◌+◌, ◌%◌, ◌^◌, List, length, true, false, ap, sym, ◌∙◌, subst, arith, ne_eqb, eq-eqb}
+use Rattle.std.specs.Prelude.{Bool, Option, Some, None, if◌then◌else◌, is_some, nat_lt}
 use Rattle.std.proofs.lemmas.Bool.Decides.{nat_tests}
 use Rattle.word_spec.specs.State.{State, Written}
-use Rattle.word_spec.specs.Texts.{line, spaced}
 use Rattle.word_spec.specs.Words.{word}
 use Rattle.clause_spec.specs.Checks.{text_limit}
 use Rattle.machine_spec.specs.Machine.{unit, IsAtPlace}
@@ -24,15 +23,9 @@ use Rattle.frame_texts_spec.specs.CallTexts.{CallEnding, CallIs, CallText, CallT
 use Rattle.frame_texts_spec.specs.FrameReplays.{bound_of, false_at_head, step_of}
 use Rattle.frame_texts_spec.specs.FrameTexts.{FramedEnding}
 use Rattle.table_run.specs.CalledRuns.{IsFoundAs, cause_of, cause_within}
-use Rattle.table_run.specs.Endings.{IsLinesFault, fault_of}
+use Rattle.table_run.specs.Known.{IsRightTo}
 use Rattle.table_run.specs.declared.ending.CalledRun.{CalledRun}
-use Rattle.table_run.specs.declared.ending.EntryFault.{EntryFault}
-use Rattle.table_run.specs.declared.ending.EntryFault.TheVariants.{Link, Require, Byte}
 use Rattle.call_replay.specs.Found.{IsOutcome}
-
--- the text of a line with the fault of a block
-pub block_text : (n : List ℕ) → codes "state: line " ++ (n ++ codes " S7 Call\n") ≡ line (codes "state: line" ++ spaced (n ∷ codes "S7 Call" ∷ []))
-block_text n = ap (λ t. codes "state: line " ++ t) (sym (append_assoc n (codes " S7 Call") (10 ∷ [])))
 
 module _ (f : Frame) (n : CallEnding) (start : Start) (calls : List WrittenCall) where
   pub unaligned_is : IsEntryStateFault f.program start.state UnalignedLink → call_start_answer false f n start calls ≡ call_run_answer f n start calls
@@ -70,15 +63,12 @@ outcome_is f n start calls run limit k steps bound none cause ends called =
       found = subst (IsFoundAs run.ending) (ap (λ j. found f j start (limit - 1)) bound ∙ ap (found f (bound_of n) start) last) ends;
     }
 
--- a start gives no byte of the file another value
-pub lines_fault : (p : Program) (form : Layout) (w : Written) (s : State) (fault : EntryFault) → s ≡ (start_in p form w).state →
-    IsEntryStateFault p s (fault_of fault) → IsLinesFault fault
-lines_fault p form w s Link is h = tt
-lines_fault p form w s (Require n) is h = tt
-lines_fault p form w s (Byte a) is (even, none, (low, known, other), first) =
+-- a start has the file's bytes where they are known
+pub right_of_start : (p : Program) (form : Layout) (w : Written) (s : State) → s ≡ (start_in p form w).state → IsRightTo p s (2 ^ 32)
+right_of_start p form w s is a below (low, known, other) =
     let place : word 32 a ≡ a = omega (arith, low) in
-    absurd (other (ap (λ (t : State). t.mem a) is ∙ ap (λ m. known_or (known_byte p m) w.bytes a) place
-    ∙ ap (λ b. known_or (if b then Some (byte_of_cell (p.loaded a)) else None) w.bytes a) known))
+    other (ap (λ (t : State). t.mem a) is ∙ ap (λ m. known_or (known_byte p m) w.bytes a) place
+    ∙ ap (λ b. known_or (if b then Some (byte_of_cell (p.loaded a)) else None) w.bytes a) known)
 
 -- the answer by the length of the text
 pub large_is : (w : Whole) (returns : ℕ → Bool) (layout : Layout) (text : List ℕ) → text_limit < length text →

@@ -77,11 +77,12 @@ fn all_changes(alloc: Global, contracts: &[Contract]) -> Result<Vec<ContractChan
     Ok(changes)
 }
 
-/// What contracts may change, by their addresses. The error is want of memory.
-pub(crate) fn changes_of(
-    alloc: Global,
-    contracts: &[Contract],
-) -> Result<Vec<ContractChanges>, AllocError>
+/// What contracts may change, by their addresses.
+///
+/// # Errors
+///
+/// Want of memory.
+pub fn changes_of(alloc: Global, contracts: &[Contract]) -> Result<Vec<ContractChanges>, AllocError>
     ensures { (a : ℕ) → IfOk result (λ v. changes_at v.items a ≡ option_map changes_in (contract_at (map contract_of contracts.now) a)) }
 {
     let changes = all_changes(alloc, contracts)?;

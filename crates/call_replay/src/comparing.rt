@@ -8,7 +8,7 @@ ghost use Rattle.table_run.specs.CalledFrames.{called_event_of};
 ghost use Rattle.call_replay.specs.Found.{called_found};
 
 use call_text::{CalledEnding, FrameName};
-use frame_replay::{is_event, is_turn};
+use frame_replay::{bare, is_event, is_turn};
 use frame_text::{FramedEnding, FramedEvent};
 use table_run::{CalledEnding as RunEnding, CalledEvent};
 
@@ -22,22 +22,6 @@ pub(crate) fn framed(event: CalledEvent) -> FramedEvent
         CalledEvent::WritesFails => FramedEvent::WritesFails,
         CalledEvent::GivesFails { line } => FramedEvent::GivesFails { line: line as u64 },
         CalledEvent::ModifiesFails => FramedEvent::ModifiesFails,
-    }
-}
-
-/// The ending without its frame.
-pub(crate) fn bare(named: CalledEnding) -> FramedEnding
-    ensures { framed_ending_of result ≡ replays.bare (called_ending_of named) }
-{
-    match named {
-        CalledEnding::Plain(ending) => ending,
-        CalledEnding::UnprovedBy {
-            event,
-            at,
-            step,
-            ..
-        } => FramedEnding::Fails { event, at, step },
-        CalledEnding::UnprovedTurns { k, at, step, .. } => FramedEnding::Turns { k, at, step },
     }
 }
 

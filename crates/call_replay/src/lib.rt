@@ -11,4 +11,6 @@ mod replays;
 mod running;
 mod texts;
 
+pub use blocks::changes_of;
+pub use ranks::rank_at;
 pub use replays::replay_called;

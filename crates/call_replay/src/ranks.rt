@@ -10,7 +10,7 @@ use call_text::FrameName;
 use notes_value::Contract;
 
 /// The rank of the contract of an address; where none is there, one more than the last.
-fn rank_at(contracts: &[Contract], at: u32) -> usize
+pub fn rank_at(contracts: &[Contract], at: u32) -> usize
     ensures rank { result ≡ rank_at (map contract_of contracts.now) at }
     ensures within { result ≤ length contracts.now }
 {

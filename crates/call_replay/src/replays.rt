@@ -2,7 +2,6 @@
 ghost use Rattle.std.specs.Prelude.{◌≡◌, ℕ, All, Bool, IfOk};
 ghost use Rattle.bilv_spec.specs.Files.{order_of};
 ghost use Rattle.call_spec.specs.Calls.{plain_answer};
-ghost use Rattle.clause_spec.specs.Checks.{text_limit};
 ghost use Rattle.frame_texts_spec.specs.CallReplays.{call_replay_answer};
 ghost use Rattle.frame_texts_spec.specs.CallTextLaws.{HasContracts};
 ghost use Rattle.notes_value.specs.FrameViews.{contract_of};

@@ -21,14 +21,13 @@ ghost use Rattle.table_run.specs.CalledRuns.{frame_of_rank, start_called, whole_
 ghost use Rattle.table_run.specs.Endings.{IsLinesFault, fault_of};
 ghost use Rattle.call_text.specs.Texts.{called_ending_of, frame_name_of};
 
-use crate::comparing::bare;
 use crate::texts::compared;
 use call_text::{CalledText, FrameName};
-use frame_replay::{bound, numbered, step_of};
+use frame_replay::{bare, bound, numbered, step_of};
 use machine_law::Machine;
 use report_replay::{Replay, false_require, unaligned};
 use std::alloc::{AllocError, Global};
-use table_run::{EntryFault, RankedFrame, called_entry_ok, called_state, run_called};
+use table_run::{EntryFault, RankedFrame, called_lines_ok, called_state, run_called};
 
 /// The answer where a line is the first that is false where the run of a frame begins: one that the notes require, or that its contract needs. The error is
 /// want of memory.
@@ -78,7 +77,7 @@ pub(crate) fn run_named<M: Machine>(
 {
     let state = called_state::<M>(alloc, frame, &text.start)?;
     let named = text.named;
-    if let Err(fault) = called_entry_ok::<M>(frame, &state) {
+    if let Err(fault) = called_lines_ok::<M>(frame, &state) {
         return faulted(alloc, named.frame(), fault);
     }
     let ending = bare(named);

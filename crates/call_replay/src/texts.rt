@@ -1,5 +1,5 @@
 //! The texts of answers.
-ghost use Rattle.std.specs.Prelude.{◌≡◌, ℕ, ◌++◌, ◌≤◌, Bool, None, Some, false, codes, IfOk, OnOk};
+ghost use Rattle.std.specs.Prelude.{◌≡◌, ◌++◌, ◌≤◌, None, Some, false, IfOk, OnOk};
 ghost use Rattle.machine_spec.specs.StateText.{Layout, last_step};
 ghost use Rattle.word_spec.specs.Texts.{joined, line};
 ghost use Rattle.call_spec.specs.Calls.{plain_answer};
@@ -15,11 +15,11 @@ ghost use Rattle.table_run.specs.CalledRuns.{cause_of};
 ghost use Rattle.call_replay.specs.Found.{IsOutcome, called_found};
 ghost use Rattle.call_replay.specs.Readings.{refusal_of};
 
-use crate::comparing::{bare, framed, is_named, is_of_frame};
+use crate::comparing::{framed, is_named, is_of_frame};
 use crate::judging::Refusal;
 use call_text::{CallFault, CalledEnding, FrameName, push_called_ending};
-use exit_status::{DONE, TEXT_REFUSED};
-use frame_replay::{numbered, push_place, turns_within};
+use exit_status::TEXT_REFUSED;
+use frame_replay::{bad_block, bare, named_so, numbered, push_place, turns_within};
 use frame_text::FramedEnding;
 use report_replay::Replay;
 use std::alloc::{AllocError, Global};
@@ -35,23 +35,8 @@ pub(crate) fn refused(alloc: Global, refusal: Refusal) -> Result<Replay, AllocEr
             alloc,
             frame_replay::Refusal { line, kind },
         ),
-        CallFault::Block => numbered(alloc, b"state: line ", line, b" S7 Call\n"),
+        CallFault::Block => bad_block(alloc, line),
     }
-}
-
-/// The answer where the run ends as is named. The error is want of memory.
-fn replayed(alloc: Global, named: CalledEnding) -> Result<Replay, AllocError>
-    ensures { IfOk result (λ r. plain_answer r.status r.text.items
-        ≡ plain_answer 0 (line (codes "replayed " ++ joined (call_ending_words (called_ending_of named))))) }
-{
-    let mut out = Vec::new(alloc);
-    out.extend_from_slice(b"replayed ")?;
-    push_called_ending(alloc, &mut out, named)?;
-    out.push(b'\n')?;
-    Ok(Replay {
-        status: DONE,
-        text: out,
-    })
 }
 
 /// How an ending of a frame's run is named, which made a contract step or not.
@@ -138,7 +123,7 @@ pub(crate) fn compared(
         return numbered(alloc, b"state: gives ", line as u64, b"\n");
     }
     if is_named(named, run.called, ending) {
-        return replayed(alloc, named);
+        return named_so(alloc, named);
     }
     found_other(alloc, named, run.called, ending)
 }

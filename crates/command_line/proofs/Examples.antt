@@ -3,7 +3,7 @@ use Rattle.std.proofs.Common.{◌≡◌, true, false, refl, codes, [], ◌∷◌
 use Rattle.call_spec.specs.Framed.{FailQuestion, TurnQuestion}
 use Rattle.call_spec.specs.Calls.{default_budget, default_options}
 use Rattle.word_spec.specs.Profiles.{V4, V4T, V5}
-use Rattle.command_spec.specs.Commands.{Lift, Graph, Script, SelfRun, Upgrade, Equal, Model, Verify}
+use Rattle.command_spec.specs.Commands.{Lift, Graph, Script, Certify, SelfRun, Upgrade, Equal, Model, Verify}
 use Rattle.clap.proofs.OnLiterals.{clap_on_literals}
 use Rattle.command_line.specs.Lines.{bilv_app, command_named, lawful_command, takes_line}
 
@@ -23,9 +23,28 @@ unfolding clap_on_literals bilv_app takes_line command_named
 verify_attached = refl
 
 smt_fail : lawful_command (codes "bilv" ∷ codes "smt" ∷ codes "e" ∷ codes "n" ∷ codes "--question" ∷ codes "fail" ∷ codes "--size" ∷ codes "5" ∷ [])
-    ≡ Some (Script default_options (codes "e") (codes "n") FailQuestion (record default_budget { size = 5 }))
+    ≡ Some (Script default_options (codes "e") (codes "n") FailQuestion None (record default_budget { size = 5 }))
 unfolding clap_on_literals bilv_app takes_line command_named
 smt_fail = refl
+
+cert_of_frame : lawful_command (codes "bilv" ∷ codes "cert" ∷ codes "e" ∷ codes "n" ∷ codes "--question=turn" ∷ codes "--frame" ∷ codes "0x10000" ∷ [])
+    ≡ Some (Certify default_options (codes "e") (codes "n") TurnQuestion (Some (codes "0x10000")) default_budget)
+unfolding clap_on_literals bilv_app takes_line command_named
+cert_of_frame = refl
+
+smt_of_any_word : lawful_command (codes "bilv" ∷ codes "smt" ∷ codes "e" ∷ codes "n" ∷ codes "--frame=" ∷ codes "--question" ∷ codes "fail" ∷ [])
+    ≡ Some (Script default_options (codes "e") (codes "n") FailQuestion (Some []) default_budget)
+unfolding clap_on_literals bilv_app takes_line command_named
+smt_of_any_word = refl
+
+verify_of_frame : lawful_command (codes "bilv" ∷ codes "verify" ∷ codes "e" ∷ codes "n" ∷ codes "--frame" ∷ codes "0x10000" ∷ []) ≡ None
+unfolding clap_on_literals bilv_app takes_line command_named
+verify_of_frame = refl
+
+frame_twice : lawful_command (codes "bilv" ∷ codes "smt" ∷ codes "e" ∷ codes "n" ∷ codes "--question" ∷ codes "fail" ∷ codes "--frame=1" ∷ codes "--frame=1" ∷ [])
+    ≡ None
+unfolding clap_on_literals bilv_app takes_line command_named
+frame_twice = refl
 
 graph_by_dashes : lawful_command (codes "bilv" ∷ codes "graph" ∷ codes "--" ∷ codes "-e" ∷ codes "--n" ∷ [])
     ≡ Some (Graph default_options (codes "-e") (codes "--n"))

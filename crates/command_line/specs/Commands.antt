@@ -1,4 +1,5 @@
 -- The commands of the code as the definitions have them.
+use Rattle.std.specs.Option.{option_map}
 use Rattle.call_spec.specs.Calls as asked
 use Rattle.command_spec.specs.Commands as outcomes
 use Rattle.start_value.specs.Starts.{profile_in}
@@ -24,9 +25,11 @@ abbrev pub command_of : Command → outcomes.Command
 command_of (Verify elf notes options budget) = outcomes.Verify (options_of options) elf.now notes.now (budget_of budget)
 command_of (Lift elf options) = outcomes.Lift (options_of options) elf.now
 command_of (Graph elf notes options) = outcomes.Graph (options_of options) elf.now notes.now
-command_of (Script elf notes options question budget) = outcomes.Script (options_of options) elf.now notes.now (frame_question question) (budget_of budget)
+command_of (Script elf notes options question frame budget) =
+    outcomes.Script (options_of options) elf.now notes.now (frame_question question) (option_map (λ w. w.now) frame) (budget_of budget)
 command_of (Replay elf notes options state) = outcomes.Replay (options_of options) elf.now notes.now state.now
-command_of (Certify elf notes options question budget) = outcomes.Certify (options_of options) elf.now notes.now (frame_question question) (budget_of budget)
+command_of (Certify elf notes options question frame budget) =
+    outcomes.Certify (options_of options) elf.now notes.now (frame_question question) (option_map (λ w. w.now) frame) (budget_of budget)
 command_of (Check certificate) = outcomes.Check certificate.now
 command_of (SelfRun seed count) = outcomes.SelfRun seed count
 command_of (Upgrade elf notes options) = outcomes.Upgrade (options_of options) elf.now notes.now

@@ -33,6 +33,10 @@ number_option name low high default = record (new_rule name) { long = Some name;
 abbrev pub question_option : Rule
 question_option = record (new_rule (codes "question")) { long = Some (codes "question"); required = true }
 
+-- the option that names a frame
+abbrev pub frame_option : Rule
+frame_option = record (new_rule (codes "frame")) { long = Some (codes "frame") }
+
 -- the option that names ARM's profile
 abbrev pub arm_option : Rule
 arm_option = record (new_rule (codes "arm")) { long = Some (codes "arm"); defaults = codes "v4" ∷ [] }
@@ -60,7 +64,7 @@ elf = file_argument (codes "elf")
 abbrev pub notes : Rule
 notes = file_argument (codes "notes")
 
--- a command over an ELF file, one over notes as well, and one that asks a question of both
+-- a command over an ELF file, one over notes as well, one that asks a question of both, and one that asks it of a frame
 abbrev pub over_elf : (name : Text) → App
 over_elf name = command_with name (elf ∷ arm_option ∷ rvc_option ∷ [])
 
@@ -75,6 +79,9 @@ over_pair name =
 abbrev pub asking : (name : Text) → App
 asking name = with_rules (over_program name) (question_option ∷ budgets)
 
+abbrev pub asking_frame : (name : Text) → App
+asking_frame name = with_rule (asking name) frame_option
+
 abbrev pub verify : App
 verify = with_rules (over_program (codes "verify")) budgets
 
@@ -85,13 +92,13 @@ abbrev pub graph : App
 graph = over_program (codes "graph")
 
 abbrev pub smt : App
-smt = asking (codes "smt")
+smt = asking_frame (codes "smt")
 
 abbrev pub replay : App
 replay = with_rule (over_program (codes "replay")) (file_argument (codes "state"))
 
 abbrev pub cert : App
-cert = asking (codes "cert")
+cert = asking_frame (codes "cert")
 
 abbrev pub upgrade : App
 upgrade = over_program (codes "upgrade")
@@ -232,7 +239,7 @@ smt_in rows = do
   options ← options_in rows
   question ← question_in rows
   budget ← budget_in rows
-  Some (of.Script options elf notes question budget)
+  Some (of.Script options elf notes question (first_of (codes "frame") rows) budget)
 
 abbrev pub replay_in : List Row → Option of.Command
 replay_in rows = do
@@ -249,7 +256,7 @@ cert_in rows = do
   options ← options_in rows
   question ← question_in rows
   budget ← budget_in rows
-  Some (of.Certify options elf notes question budget)
+  Some (of.Certify options elf notes question (first_of (codes "frame") rows) budget)
 
 abbrev pub check_in : List Row → Option of.Command
 check_in rows = do

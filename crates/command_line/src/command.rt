@@ -63,12 +63,13 @@ pub enum Command<'a> {
         notes: &'a str,
         options: Options,
     },
-    /// Prints the SMT-LIB script of a question.
+    /// Prints the SMT-LIB script of a question of the frame that a word names, or of that of the entry.
     Script {
         elf: &'a str,
         notes: &'a str,
         options: Options,
         question: Asked,
+        frame: Option<&'a str>,
         budget: Budget,
     },
     /// Runs the start that a report holds.
@@ -78,12 +79,13 @@ pub enum Command<'a> {
         options: Options,
         state: &'a str,
     },
-    /// Prints the certificate of a question.
+    /// Prints the certificate of a question of the frame that a word names, or of that of the entry.
     Certify {
         elf: &'a str,
         notes: &'a str,
         options: Options,
         question: Asked,
+        frame: Option<&'a str>,
         budget: Budget,
     },
     /// Checks a certificate.

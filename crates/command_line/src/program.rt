@@ -1,7 +1,7 @@
 //! What the program's command line may hold, as `clap` is told.
 ghost use Rattle.std.specs.Prelude.{◌≡◌, IfOk, false};
 ghost use Rattle.clap.specs.Words.{App, rule_of};
-ghost use Rattle.command_line.specs.Lines.{IsMade, arm_option, asking, bilv_app, budgets, check, differ, equal, file_argument, model, number_argument, number_option, others, over_elf, over_pair, over_program, over_programs, over_questions, question_option, replay, rvc_option, selfrun, verify, with_rules, with_subcommands};
+ghost use Rattle.command_line.specs.Lines.{IsMade, arm_option, asking, asking_frame, bilv_app, budgets, check, differ, equal, file_argument, frame_option, model, number_argument, number_option, others, over_elf, over_pair, over_program, over_programs, over_questions, question_option, replay, rvc_option, selfrun, verify, with_rules, with_subcommands};
 
 use call_form::{CONFLICTS, POINTS, Range, SIZE, UNROLL};
 use clap::builder::{ArgAction, ValueParser};
@@ -43,6 +43,14 @@ fn question<'a>(alloc: Global) -> Arg<'a>
     ensures local { result.global ≡ false }
 {
     Arg::new(alloc, "question").long("question").required(true)
+}
+
+// The option that names a frame.
+fn frame<'a>(alloc: Global) -> Arg<'a>
+    ensures rule { rule_of result ≡ frame_option }
+    ensures local { result.global ≡ false }
+{
+    Arg::new(alloc, "frame").long("frame")
 }
 
 // The option that names ARM's profile.
@@ -118,6 +126,14 @@ fn asking<'a>(alloc: Global, name: &'a str) -> Result<Command<'a>, AllocError>
     Ok(command)
 }
 
+// A command that asks a question of a frame.
+fn asking_frame<'a>(alloc: Global, name: &'a str) -> Result<Command<'a>, AllocError>
+    ensures { IfOk result (IsMade (asking_frame name.entry.now)) }
+{
+    let command = asking(alloc, name)?.arg(frame(alloc))?;
+    Ok(command)
+}
+
 fn verify<'a>(alloc: Global) -> Result<Command<'a>, AllocError>
     ensures { IfOk result (IsMade verify) }
 {
@@ -188,8 +204,8 @@ fn with_questions<'a>(alloc: Global, command: Command<'a>) -> Result<Command<'a>
     ensures { IfOk result (λ c. (a : App) → IsMade a command.entry → IsMade (with_subcommands a over_questions) c) }
 {
     let command = command
-        .subcommand(asking(alloc, "smt")?)?
-        .subcommand(asking(alloc, "cert")?)?
+        .subcommand(asking_frame(alloc, "smt")?)?
+        .subcommand(asking_frame(alloc, "cert")?)?
         .subcommand(check(alloc)?)?
         .subcommand(model(alloc)?)?;
     Ok(command)

@@ -160,12 +160,14 @@ fn smt<'a>(matches: &ArgMatches<'a>) -> Option<Command<'a>>
     let notes = text(matches, "notes")?;
     let options = options(matches)?;
     let question = question(matches)?;
+    let frame = text(matches, "frame");
     let budget = budget(matches)?;
     Some(Command::Script {
         elf,
         notes,
         options,
         question,
+        frame,
         budget,
     })
 }
@@ -194,12 +196,14 @@ fn cert<'a>(matches: &ArgMatches<'a>) -> Option<Command<'a>>
     let notes = text(matches, "notes")?;
     let options = options(matches)?;
     let question = question(matches)?;
+    let frame = text(matches, "frame");
     let budget = budget(matches)?;
     Some(Command::Certify {
         elf,
         notes,
         options,
         question,
+        frame,
         budget,
     })
 }

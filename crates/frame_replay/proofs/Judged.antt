@@ -8,7 +8,16 @@ use Rattle.state_text.specs.Readings.{told_but}
 use Rattle.frame_texts_spec.specs.FrameTexts.{Checks, FramedTold, FramedRefused, OfPart, HeadFault, bad_return}
 use Rattle.frame_text.specs.Readings.{JudgedHead, seen_head, framed_but, known_but, line_of_mark, stack_but}
 use Rattle.frame_text.specs.declared.fault.SeenHead.{SeenHead}
-use Rattle.frame_replay.specs.Readings.{head_but}
+use Rattle.machine_spec.specs.Machine.{Machine}
+use Rattle.frame_texts_spec.specs.CallReplays.{frame_checks}
+use Rattle.frame_texts_spec.specs.CallTexts.{CallTold, CallRefused, ContractFrame, EntryFrame, FrameName, OfFramed}
+use Rattle.call_text.specs.Readings.{called_but, passed, unless_framed}
+use Rattle.frame_text.specs.Readings.{frame_fault_of, judged_head}
+use Rattle.notes_value.specs.declared.notes.Notes.{Notes}
+use Rattle.state_text.specs.Starts.{written_head_of}
+use Rattle.state_text.specs.declared.start.HeadStart.{HeadStart}
+use Rattle.frame_replay.specs.Readings.{checks_by, head_but, is_among, refusal_of, whole_by}
+use Rattle.frame_replay.specs.declared.reading.Refusal.{Refusal}
 
 -- what no byte's line tells
 abbrev pub no_byte : Told
@@ -82,3 +91,33 @@ told_left layout c seen bytes a b all told left same heads is leaves =
 pub seen_as : (a : Option (Bor SeenHead)) (b : Option SeenHead) → option_copied a ≡ b → option_map (λ h. seen_head h.now) a ≡ option_map seen_head b
 seen_as None b e = ap (option_map seen_head) e
 seen_as (Some h) b e = ap (option_map seen_head) e
+
+-- ---- a text with blocks, of a program without contracts
+
+-- the tests of each frame are those of the entry's
+pub one_test_of : (m : Machine) (file : List ℕ) (notes : Notes) (invariants returns : List ℕ) (entry : ℕ) (f : FrameName) →
+    frame_checks (whole_by m file notes invariants entry) (is_among returns) f ≡ checks_by m file notes invariants returns entry
+one_test_of m file notes invariants returns entry EntryFrame = refl
+one_test_of m file notes invariants returns entry (ContractFrame a) = refl
+
+-- what is told is what the same bytes and the same head part leave
+pub called_left : (layout : Layout) (of c : Checks) (seen bytes : List (ℕ × ℕ)) (a b : Option JudgedHead) (all told left : CallTold) → of ≡ c → seen ≡ bytes →
+    a ≡ b → all ≡ called_but layout of bytes b told → called_but layout c seen a told ≡ left → all ≡ left
+called_left layout of c seen bytes a b all told left tests same heads is leaves =
+    is ∙ ap (λ (x : Checks). called_but layout x bytes b told) tests
+    ∙ sym (ap (λ l. called_but layout c l a told) same ∙ ap (λ o. called_but layout c bytes o told) heads) ∙ leaves
+
+-- no test refuses it, or one does
+module _ (layout : Layout) (c : Checks) (bytes : List (ℕ × ℕ)) (h : Option JudgedHead) (told : CallTold) where
+  pub none_refuses : framed_but layout c bytes h passed ≡ passed → called_but layout c bytes h told ≡ told
+  none_refuses e = ap (λ t. unless_framed t told) e
+
+  pub one_refuses : (r : Refusal) → framed_but layout c bytes h passed ≡ refusal_of r →
+      called_but layout c bytes h told ≡ CallRefused r.line (OfFramed (frame_fault_of r.kind))
+  one_refuses r e = ap (λ t. unless_framed t told) e
+
+-- a head part that was read, and is borrowed
+pub read_as : (a : Option (Bor HeadStart)) (b : Option HeadStart) → option_copied a ≡ b →
+    option_map (λ h. judged_head (written_head_of h.now)) a ≡ option_map judged_head (option_map written_head_of b)
+read_as None b e = ap (λ (o : Option HeadStart). option_map judged_head (option_map written_head_of o)) e
+read_as (Some h) b e = ap (λ (o : Option HeadStart). option_map judged_head (option_map written_head_of o)) e

@@ -5,10 +5,11 @@ use Rattle.bilv_spec.specs.Elf.{loaded, is_kept}
 use Rattle.bilv_spec.specs.Files.{program_of}
 use Rattle.machine_spec.specs.Machine.{Machine}
 use Rattle.machine_spec.specs.StateText.{Layout, IsWritten, value_names}
-use Rattle.frame_texts_spec.specs.FrameTexts.{Checks, FramedTold, FramedIs, FramedRefused, HeadFault, bad_return}
+use Rattle.frame_texts_spec.specs.FrameTexts.{Checks, FramedTold, FramedRefused, HeadFault, bad_return}
+use Rattle.frame_texts_spec.specs.CallTexts.{CallTold, CallIs, CallRefused, OfFramed, BlockFault}
 use Rattle.frame_texts_spec.specs.FrameReplays.{checks_of}
 use Rattle.frame_spec.specs.FrameVerdict.{Whole}
-use Rattle.frame_text.specs.Texts.{framed_text_of}
+use Rattle.call_text.specs.Texts.{called_text_of}
 use Rattle.frame_text.specs.Readings.{JudgedHead, frame_fault_of, known_but, stack_but}
 use Rattle.notes_value.specs.NoteViews.{notes_of}
 use Rattle.notes_value.specs.declared.notes.Notes.{Notes}
@@ -17,7 +18,7 @@ use Rattle.state_text.specs.declared.start.HeadStart.{HeadStart}
 use Rattle.table_run.specs.FrameEnds.{whole_of}
 use Rattle.frame_replay.specs.declared.reading.Refusal.{Refusal}
 use Rattle.frame_replay.specs.declared.reading.Reading.{Reading}
-use Rattle.frame_replay.specs.declared.reading.Reading.TheVariants.{State, Refused}
+use Rattle.frame_replay.specs.declared.reading.Reading.TheVariants.{State, Refused, Block}
 use Rattle.frame_replay.specs.declared.judging.HeadLines.{HeadLines}
 
 -- the number is one of a list
@@ -50,9 +51,10 @@ head_but layout c mark h told =
 abbrev pub refusal_of : Refusal → FramedTold
 refusal_of r = FramedRefused r.line (frame_fault_of r.kind)
 
-abbrev pub told_of : Reading → FramedTold
-told_of (State text) = FramedIs (framed_text_of text)
-told_of (Refused r) = refusal_of r
+abbrev pub told_of : Reading → CallTold
+told_of (State text) = CallIs (called_text_of text)
+told_of (Refused r) = CallRefused r.line (OfFramed (frame_fault_of r.kind))
+told_of (Block line) = CallRefused line BlockFault
 
 -- the head state of a text can be written: it gives no byte that is kept
 abbrev pub IsHeadWritten : Layout → (file : List ℕ) → Option HeadStart → Type 0

@@ -10,11 +10,11 @@ mod returns;
 mod running;
 mod texts;
 
-pub use comparing::{is_event, is_turn};
+pub use comparing::{bare, is_event, is_turn};
 pub use judging::kept_line;
 pub use reading::Refusal;
 pub use replays::replay_frame;
 pub use reports::replay_report;
 pub use returns::return_addresses;
 pub use running::{bound, step_of};
-pub use texts::{numbered, push_place, refused, turns_within};
+pub use texts::{bad_block, named_so, numbered, push_place, refused, turns_within};

@@ -2,15 +2,18 @@
 ghost use Rattle.std.specs.Prelude.{◌≡◌, ℕ, IfOk, option_map};
 ghost use Rattle.std.specs.List.Sorted.{IsStrictlyIncreasing};
 ghost use Rattle.machine_spec.specs.Machine.{Machine};
-ghost use Rattle.frame_texts_spec.specs.FrameTexts.{framed_of};
+ghost use Rattle.frame_texts_spec.specs.CallReplays.{call_checks};
+ghost use Rattle.frame_texts_spec.specs.CallTexts.{CallRefused, call_text_of};
+ghost use Rattle.call_text.specs.Blocks.{call_fault_of};
 ghost use Rattle.frame_text.specs.Readings.{judged_head, seen_head};
 ghost use Rattle.state_text.specs.Starts.{written_head_of};
 ghost use Rattle.start_value.specs.Starts.{layout_of};
-ghost use Rattle.frame_replay.specs.Readings.{checks_by, judged_lines, told_of};
+ghost use Rattle.frame_replay.specs.Readings.{is_among, judged_lines, told_of, whole_by};
 
 use crate::judging::{HeadLines, refused_line};
+use call_text::{CallFault, CalledFault, CalledText, parse_called};
 use elf32_reader::Image;
-use frame_text::{FrameFault, FramedFault, FramedText, SeenHead, parse_framed};
+use frame_text::{FrameFault, SeenHead};
 use notes_value::Notes;
 use start_value::Layout;
 use state_text::HeadStart;
@@ -26,9 +29,21 @@ pub struct Refusal {
 /// What a text says: a segment, or nothing, refused at its first refused line.
 #[derive(Drop)]
 pub(crate) enum Reading {
-    /// The segment with its ending.
-    State(FramedText),
+    /// The segment with its ending; it has no block, since no address is that of a contract.
+    State(CalledText),
     Refused(Refusal),
+    /// At the line of this number, which begins a block.
+    Block(u64),
+}
+
+/// A text that is refused at a line.
+fn refused_at(line: u64, kind: CallFault) -> Reading
+    ensures { told_of result ≡ CallRefused line (call_fault_of kind) }
+{
+    match kind {
+        CallFault::OfFramed(kind) => Reading::Refused(Refusal { line, kind }),
+        CallFault::Block => Reading::Block(line),
+    }
 }
 
 /// The lines of a head part that was read.
@@ -59,8 +74,8 @@ fn lines_seen(head: Option<&SeenHead>) -> Option<HeadLines>
     }
 }
 
-/// What a text says in the layout of its machine, of a program whose invariants stand on lines of these numbers and whose calls return to these addresses; both
-/// rise. The error is want of memory.
+/// What a text says in the layout of its machine, of a program without contracts whose invariants stand on lines of these numbers and whose calls return to these
+/// addresses; both rise. The error is want of memory.
 pub(crate) fn read_framed(
     alloc: Global,
     image: &Image,
@@ -73,9 +88,9 @@ pub(crate) fn read_framed(
     requires invariants { IsStrictlyIncreasing invariants.now }
     requires returns { IsStrictlyIncreasing returns.now }
     ensures { (m : Machine) (entry : ℕ) → IfOk result (λ r.
-        framed_of (layout_of layout) (checks_by m image.now notes.now invariants.now returns.now entry) text.now ≡ told_of r) }
+        call_text_of (layout_of layout) (call_checks (whole_by m image.now notes.now invariants.now entry) (is_among returns.now)) text.now ≡ told_of r) }
 {
-    match parse_framed(alloc, text, layout) {
+    match parse_called(alloc, text, &[], layout) {
         Ok(segment) => {
             let head = lines_of(segment.head.as_ref());
             match refused_line(
@@ -91,13 +106,20 @@ pub(crate) fn read_framed(
                 Some(refusal) => Ok(Reading::Refused(refusal)),
             }
         }
-        Err(FramedFault::Refused { line, kind, seen }) => {
+        Err(
+            CalledFault::Refused {
+                line,
+                kind,
+                seen,
+                ..
+            },
+        ) => {
             let head = lines_seen(seen.head.as_ref());
             match refused_line(image, notes, invariants, returns, layout, &seen.bytes, head) {
-                None => Ok(Reading::Refused(Refusal { line, kind })),
+                None => Ok(refused_at(line, kind)),
                 Some(refusal) => Ok(Reading::Refused(refusal)),
             }
         }
-        Err(FramedFault::Memory) => Err(AllocError),
+        Err(CalledFault::Memory) => Err(AllocError),
     }
 }

@@ -3,7 +3,8 @@ ghost use Rattle.std.specs.Prelude.{◌≡◌, ℕ, Bool, IfOk};
 ghost use Rattle.std.specs.List.Sorted.{IsStrictlyIncreasing};
 ghost use Rattle.bilv_spec.specs.Files.{order_of, program_of};
 ghost use Rattle.call_spec.specs.Calls.{plain_answer};
-ghost use Rattle.frame_texts_spec.specs.FrameReplays.{TellsReturns, frame_replay_answer};
+ghost use Rattle.frame_texts_spec.specs.CallReplays.{call_replay_answer};
+ghost use Rattle.frame_texts_spec.specs.FrameReplays.{TellsReturns};
 ghost use Rattle.notes_value.specs.NoteViews.{notes_of};
 ghost use Rattle.notes_value.specs.Reads.{AreReadable};
 ghost use Rattle.frame_replay.specs.Readings.{whole_by};
@@ -37,7 +38,7 @@ pub fn replay_report<M: Machine>(
     ensures told { IfOk result (λ r. (returns : ℕ → Bool) × TellsReturns (program_of M.machine image.now (notes_of notes.now) entry) returns) }
     ensures answer { (returns : ℕ → Bool) → TellsReturns (program_of M.machine image.now (notes_of notes.now) entry) returns →
         IfOk result (λ r. plain_answer r.status r.text.items
-        ≡ frame_replay_answer (whole_by M.machine image.now notes.now invariants.now entry) returns M.form text.now) }
+        ≡ call_replay_answer (whole_by M.machine image.now notes.now invariants.now entry) returns M.form text.now) }
 {
     let graph = descend::<M>(alloc, image, notes, entry)?;
     let returns = return_addresses(alloc, &graph)?;

@@ -1,5 +1,5 @@
 //! The segment of a named ending.
-ghost use Rattle.std.specs.Prelude.{◌≡◌, ℕ, ◌+◌, ◌≤◌, IfOk, IfSome, option_map};
+ghost use Rattle.std.specs.Prelude.{◌≡◌, ℕ, ◌+◌, ◌≤◌, [], IfOk, IfSome, option_map};
 ghost use Rattle.std.specs.List.Sorted.{IsStrictlyIncreasing};
 ghost use Rattle.bilv_spec.specs.Elf.{loaded, is_kept};
 ghost use Rattle.bilv_spec.specs.EntryFaults.{IsEntryStateFault};
@@ -10,20 +10,25 @@ ghost use Rattle.call_spec.specs.Calls.{plain_answer};
 ghost use Rattle.frame_spec.specs.Frames.{Frame};
 ghost use Rattle.frame_spec.specs.FrameRuns as runs;
 ghost use Rattle.frame_spec.specs.FrameReports.{head_of};
-ghost use Rattle.frame_texts_spec.specs.FrameTexts as endings;
-ghost use Rattle.frame_texts_spec.specs.FrameReplays.{bound_of, step_of, false_at_head, run_answer};
+ghost use Rattle.frame_texts_spec.specs.CallReplays as replays;
+ghost use Rattle.frame_texts_spec.specs.CallReplays.{call_run_answer};
+ghost use Rattle.frame_texts_spec.specs.CallTexts.{CallEnding, EntryFrame, frame_name};
+ghost use Rattle.frame_texts_spec.specs.FrameReplays.{bound_of, step_of, false_at_head};
 ghost use Rattle.start_value.specs.Starts.{written_of};
 ghost use Rattle.state_text.specs.Starts.{written_head_of};
-ghost use Rattle.frame_text.specs.Texts.{framed_ending_of, framed_text_of};
+ghost use Rattle.call_text.specs.Texts.{called_ending_of};
+ghost use Rattle.frame_text.specs.Texts.{framed_ending_of};
 ghost use Rattle.notes_value.specs.NoteViews.{notes_of};
 ghost use Rattle.notes_value.specs.Reads.{AreReadable};
 ghost use Rattle.table_run.specs.Endings.{fault_of, IsLinesFault};
 ghost use Rattle.table_run.specs.FrameEnds.{frame_of, start_shown};
 ghost use Rattle.frame_replay.specs.Readings.{IsHeadWritten};
 
+use crate::comparing::bare;
 use crate::texts::{compared, false_invariant};
+use call_text::CalledText;
 use elf32_reader::Image;
-use frame_text::{FramedEnding, FramedText};
+use frame_text::FramedEnding;
 use machine_law::Machine;
 use notes_value::Notes;
 use report_replay::{Replay, false_require, unaligned};
@@ -55,8 +60,9 @@ pub fn step_of(named: FramedEnding) -> u64
 /// The answer to a start that has a fault. The error is want of memory.
 fn faulted(alloc: Global, fault: EntryFault) -> Result<Replay, AllocError>
     requires { IsLinesFault fault }
-    ensures { (f : Frame) (named : endings.FramedEnding) (start : runs.Start) → IsEntryStateFault f.program start.state (fault_of fault) →
-        IfOk result (λ r. plain_answer r.status r.text.items ≡ run_answer f named start) }
+    ensures { (f : Frame) (named : CallEnding) (start : runs.Start) → frame_name named ≡ EntryFrame →
+        IsEntryStateFault f.program start.state (fault_of fault) →
+        IfOk result (λ r. plain_answer r.status r.text.items ≡ call_run_answer f named start []) }
 {
     match fault {
         EntryFault::Link => unaligned(alloc),
@@ -94,25 +100,26 @@ fn false_at<M: Machine>(
     }
 }
 
-/// The answer to a named ending with its start and its head state. The error is want of memory.
+/// The answer to a named ending of the entry's frame with its start and its head state; a block plays no part. The error is want of memory.
 pub(crate) fn run_named<M: Machine>(
     alloc: Global,
     image: &Image,
     notes: &Notes,
     invariants: &[u32],
     entry: u32,
-    text: &FramedText,
+    text: &CalledText,
 ) -> Result<Replay, AllocError>
     requires order { order_of image.now ≡ M.machine.endian }
     requires readable { AreReadable M.machine.has_register (notes_of notes.now) }
     requires rising { IsStrictlyIncreasing invariants.now }
     requires start { IsWritten M.form (is_known_at (program_of M.machine image.now (notes_of notes.now) entry)) (written_of text.now.start) }
     requires head { IsHeadWritten M.form image.now text.now.head }
-    requires step { step_of (framed_ending_of text.now.named) ≤ last_step }
+    requires frame { frame_name (called_ending_of text.now.named) ≡ EntryFrame }
+    requires step { step_of (replays.bare (called_ending_of text.now.named)) ≤ last_step }
     ensures { IfOk result (λ r. plain_answer r.status r.text.items
-        ≡ run_answer (frame_of (program_of M.machine image.now (notes_of notes.now) entry) invariants.now) (framed_ending_of text.now.named)
+        ≡ call_run_answer (frame_of (program_of M.machine image.now (notes_of notes.now) entry) invariants.now) (called_ending_of text.now.named)
         (start_shown (program_of M.machine image.now (notes_of notes.now) entry) invariants.now M.form (written_of text.now.start)
-        (option_map written_head_of text.now.head))) }
+        (option_map written_head_of text.now.head)) []) }
 {
     let state = start_state::<M>(alloc, image, notes, entry, &text.start)?;
     if let Err(fault) = lines_ok::<M>(image, notes, &state) {
@@ -122,9 +129,9 @@ pub(crate) fn run_named<M: Machine>(
     if let Some(line) = false_at::<M>(alloc, image, notes, invariants, &state, head)? {
         return false_invariant(alloc, line);
     }
-    let named = text.named;
-    let limit = step_of(named) + 1;
-    let ending = run_frame::<M>(
+    let ending = bare(text.named);
+    let limit = step_of(ending) + 1;
+    let came = run_frame::<M>(
         alloc,
         image,
         notes,
@@ -132,8 +139,8 @@ pub(crate) fn run_named<M: Machine>(
         entry,
         &text.start,
         head,
-        bound(named),
+        bound(ending),
         limit,
     )?;
-    compared(alloc, named, head.is_some(), ending)
+    compared(alloc, text.named, head.is_some(), came)
 }

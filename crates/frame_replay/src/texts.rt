@@ -1,21 +1,24 @@
 //! The texts of answers.
-ghost use Rattle.std.specs.Prelude.{◌≡◌, ℕ, ◌++◌, ◌≤◌, Bool, true, false, Some, None, IfOk, OnOk};
+ghost use Rattle.std.specs.Prelude.{◌≡◌, ◌++◌, ◌≤◌, Some, codes, false, IfOk, OnOk};
 ghost use Rattle.machine_spec.specs.Endings.{place_words};
 ghost use Rattle.machine_spec.specs.StateText.{Layout, last_step};
 ghost use Rattle.bilv_spec.specs.Reports as reports;
-ghost use Rattle.word_spec.specs.Texts.{joined, number_text};
+ghost use Rattle.word_spec.specs.Texts.{joined, line, number_text};
 ghost use Rattle.call_spec.specs.Calls.{plain_answer};
-ghost use Rattle.frame_spec.specs.FrameFound as found;
 ghost use Rattle.frame_spec.specs.FrameVerdict.{Whole};
-ghost use Rattle.frame_texts_spec.specs.FrameTexts as endings;
-ghost use Rattle.frame_texts_spec.specs.FrameReplays.{told_answer, head_answer, ending_answer, event_ending, found_words, bound_of, step_of};
+ghost use Rattle.frame_texts_spec.specs.CallReplays as replays;
+ghost use Rattle.frame_texts_spec.specs.CallReplays.{call_ending_answer, call_head_answer, call_told_answer};
+ghost use Rattle.frame_texts_spec.specs.CallTexts.{BlockFault, CallEnding, CallRefused, EntryFrame, OfFramed, call_ending_words, frame_name};
+ghost use Rattle.frame_texts_spec.specs.FrameReplays.{event_ending, found_words, bound_of, step_of};
 ghost use Rattle.frame_text.specs.Texts.{framed_ending_of};
 ghost use Rattle.state_text.specs.Starts.{frame_event_of};
 ghost use Rattle.table_run.specs.FrameEnds.{frame_found_of};
-ghost use Rattle.frame_replay.specs.Readings.{refusal_of};
+ghost use Rattle.call_text.specs.Texts.{called_ending_of};
+ghost use Rattle.frame_text.specs.Readings.{frame_fault_of};
 
-use crate::comparing::is_found;
+use crate::comparing::{bare, is_named};
 use crate::reading::Refusal;
+use call_text::{CalledEnding, push_called_ending};
 use exit_status::{DONE, TEXT_REFUSED};
 use frame_text::{FrameFault, FramedEnding, FramedEvent, push_framed_ending};
 use report_replay::Replay;
@@ -47,7 +50,8 @@ pub fn numbered(alloc: Global, before: &[u8], n: u64, behind: &[u8]) -> Result<R
 ///
 /// Want of memory.
 pub fn refused(alloc: Global, refusal: Refusal) -> Result<Replay, AllocError>
-    ensures { (w : Whole) (layout : Layout) → IfOk result (λ r. plain_answer r.status r.text.items ≡ told_answer w layout (refusal_of refusal)) }
+    ensures { (w : Whole) (layout : Layout) → IfOk result (λ r. plain_answer r.status r.text.items ≡ call_told_answer w layout
+        (CallRefused refusal.line (OfFramed (frame_fault_of refusal.kind)))) }
 {
     match refusal.kind {
         FrameFault::OfPart(kind) => report_replay::refused(alloc, refusal.line, kind),
@@ -55,22 +59,37 @@ pub fn refused(alloc: Global, refusal: Refusal) -> Result<Replay, AllocError>
     }
 }
 
+/// The answer to a text that is refused at a line of a block.
+///
+/// # Errors
+///
+/// Want of memory.
+pub fn bad_block(alloc: Global, line: u64) -> Result<Replay, AllocError>
+    ensures { (w : Whole) (layout : Layout) → IfOk result (λ r. plain_answer r.status r.text.items ≡ call_told_answer w layout (CallRefused line BlockFault)) }
+{
+    numbered(alloc, b"state: line ", line, b" S7 Call\n")
+}
+
 /// The answer where an invariant is the first that is false in the head state.
 pub(crate) fn false_invariant(alloc: Global, line: u32) -> Result<Replay, AllocError>
-    ensures { (named : endings.FramedEnding) (from_head : Bool) (f : found.Found) →
-        IfOk result (λ r. plain_answer r.status r.text.items ≡ head_answer (Some line) named from_head f) }
+    ensures { (named : CallEnding) (o : replays.Outcome) →
+        IfOk result (λ r. plain_answer r.status r.text.items ≡ call_head_answer (Some line) named o) }
 {
     numbered(alloc, b"state: invariant ", line as u64, b"\n")
 }
 
-/// The answer where the segment ends as is named.
-fn replayed(alloc: Global, named: FramedEnding) -> Result<Replay, AllocError>
-    ensures { (from_head : Bool) (f : found.Found) →
-        IfOk result (λ r. plain_answer r.status r.text.items ≡ ending_answer true (framed_ending_of named) from_head f) }
+/// The answer where a run ends as is named.
+///
+/// # Errors
+///
+/// Want of memory.
+pub fn named_so(alloc: Global, named: CalledEnding) -> Result<Replay, AllocError>
+    ensures { IfOk result (λ r. plain_answer r.status r.text.items
+        ≡ plain_answer 0 (line (codes "replayed " ++ joined (call_ending_words (called_ending_of named))))) }
 {
     let mut out = Vec::new(alloc);
     out.extend_from_slice(b"replayed ")?;
-    push_framed_ending(alloc, &mut out, named)?;
+    push_called_ending(alloc, &mut out, named)?;
     out.push(b'\n')?;
     Ok(Replay {
         status: DONE,
@@ -142,18 +161,26 @@ pub fn push_place(
 /// The answer where the segment comes to something else than is named.
 fn found_other(
     alloc: Global,
-    named: FramedEnding,
+    named: CalledEnding,
     from_head: bool,
     ending: FrameEnding,
 ) -> Result<Replay, AllocError>
-    requires { step_of (framed_ending_of named) ≤ last_step }
-    ensures { IfOk result (λ r. plain_answer r.status r.text.items ≡ ending_answer false (framed_ending_of named) from_head (frame_found_of ending)) }
+    requires step { step_of (replays.bare (called_ending_of named)) ≤ last_step }
+    requires entry { frame_name (called_ending_of named) ≡ EntryFrame }
+    ensures { IfOk result (λ r. plain_answer r.status r.text.items
+        ≡ call_ending_answer false (called_ending_of named) false from_head (frame_found_of ending)) }
 {
     let mut out = Vec::new(alloc);
     out.extend_from_slice(b"replay: named ")?;
-    push_framed_ending(alloc, &mut out, named)?;
+    push_called_ending(alloc, &mut out, named)?;
     out.extend_from_slice(b", found ")?;
-    push_found(alloc, &mut out, from_head, turns_within(named), ending)?;
+    push_found(
+        alloc,
+        &mut out,
+        from_head,
+        turns_within(bare(named)),
+        ending,
+    )?;
     out.push(b'\n')?;
     Ok(Replay {
         status: TEXT_REFUSED,
@@ -161,18 +188,21 @@ fn found_other(
     })
 }
 
-/// The answer by what the segment of a named ending came to.
+/// The answer by what the segment of a named ending came to, which has no contract steps.
 pub(crate) fn compared(
     alloc: Global,
-    named: FramedEnding,
+    named: CalledEnding,
     from_head: bool,
     ending: FrameEnding,
 ) -> Result<Replay, AllocError>
-    requires { step_of (framed_ending_of named) ≤ last_step }
-    ensures { IfOk result (λ r. plain_answer r.status r.text.items ≡ head_answer None (framed_ending_of named) from_head (frame_found_of ending)) }
+    requires step { step_of (replays.bare (called_ending_of named)) ≤ last_step }
+    requires entry { frame_name (called_ending_of named) ≡ EntryFrame }
+    ensures { IfOk result (λ r. plain_answer r.status r.text.items
+        ≡ call_ending_answer (replays.is_call_found (called_ending_of named) false from_head (frame_found_of ending)) (called_ending_of named) false from_head
+        (frame_found_of ending)) }
 {
-    if is_found(named, from_head, ending) {
-        return replayed(alloc, named);
+    if is_named(named, from_head, ending) {
+        return named_so(alloc, named);
     }
     found_other(alloc, named, from_head, ending)
 }

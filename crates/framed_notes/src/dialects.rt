@@ -72,15 +72,15 @@ fn has_line(alloc: Global, text: &[u8], kind: LineKind) -> Result<bool, AllocErr
     Ok(false)
 }
 
-/// The dialect in which a text is read: with lines of invariants where it has one, and none of a contract. The error is want of memory.
+/// The dialect in which a text is read: with lines of invariants and of contracts where it has one of either. The error is want of memory.
 pub(crate) fn dialect_for(alloc: Global, text: &[u8]) -> Result<Dialect, AllocError>
     ensures { IfOk result (λ d. dialect_of d ≡ answers.dialect_for text.now) }
 {
-    if !has_line(alloc, text, LineKind::Invariant)? {
-        return Ok(Dialect::Plain);
+    if has_line(alloc, text, LineKind::Invariant)? {
+        return Ok(Dialect::Framed);
     }
     if has_line(alloc, text, LineKind::Contract)? {
-        return Ok(Dialect::Plain);
+        return Ok(Dialect::Framed);
     }
-    Ok(Dialect::Framed)
+    Ok(Dialect::Plain)
 }

@@ -1,4 +1,4 @@
-//! Notes that may have invariants.
+//! Notes that may have invariants or contracts.
 ghost use Rattle.std.specs.Prelude.{◌≡◌, All, IfErr, IfOk};
 ghost use Rattle.std.specs.List.Sorted.{IsStrictlyIncreasing};
 ghost use Rattle.answer_spec.specs.FrameAnswers as answers;
@@ -17,9 +17,9 @@ use notes_value::FrameNotes;
 use start_value::Layout;
 use std::alloc::Global;
 
-/// The notes of one function that a text says, with its invariants and contracts, for the machine of a layout. Lines of invariants are known where the text has
-/// one, and none that begins with a word of contracts, which are known nowhere, so that there are no contracts. The numbers of the lines that are invariants
-/// rise. What the notes and their contracts read and change is of the machine.
+/// The notes of one function that a text says, with its invariants and contracts, for the machine of a layout. Lines of invariants and of contracts are known
+/// where the text has one of either; a text with both is refused. The numbers of the lines that are invariants rise. What the notes and their contracts read and
+/// change is of the machine.
 ///
 /// # Errors
 ///

@@ -13,16 +13,11 @@ use Rattle.state_text.specs.declared.start.CallState.{CallState}
 use Rattle.table_run.specs.CalledRuns.{frame_of_rank, start_called}
 use Rattle.table_run.specs.Endings.{fault_of}
 use Rattle.call_text.specs.Texts.{called_ending_of}
-use Rattle.call_replay.proofs.Replayed.{ended_is, lines_fault, outcome_is}
+use Rattle.call_replay.proofs.Replayed.{ended_is, outcome_is, right_of_start}
 use Rattle.call_replay.proofs.running.run_named.Goals as goal
 
-pub called_entry_ok-requires-clause-pc : goal.called_entry_ok-requires-clause-pc
-called_entry_ok-requires-clause-pc g c = ap (λ (s : State). s.pc) (c.in_ok-state.ensures (map written_call_of c.args.text.now.calls.items))
-
-pub faulted-requires : goal.faulted-requires
-faulted-requires g c =
-    lines_fault (frame_of_rank g.M.Machine.machine c.args.frame.now).program g.M.Machine.form (written_of c.args.text.now.start)
-    (g.M.State.View.view c.in_ok-state.state) c.in-Err.fault (c.in_ok-state.ensures (map written_call_of c.args.text.now.calls.items)) c.in-Err.ensures.fault
+pub called_lines_ok-requires-clause-pc : goal.called_lines_ok-requires-clause-pc
+called_lines_ok-requires-clause-pc g c = ap (λ (s : State). s.pc) (c.in_ok-state.ensures (map written_call_of c.args.text.now.calls.items))
 
 pub returns-in-Err : goal.returns-in-Err
 returns-in-Err g c =
@@ -43,7 +38,8 @@ returns g c =
     let calls = map written_call_of c.as_slice-calls.result.now in
     let start = start_called g.M.Machine.machine g.M.Machine.form c.args.frame.now (written_of c.args.text.now.start) calls in
     let entry : IsEntryState f.program start.state =
-    subst (λ (s : State). IsEntryState f.program s) (c.in_ok-state.ensures calls) c.in_default.ensures.ok in
+    subst (λ (s : State). IsEntryState f.program s) (c.in_ok-state.ensures calls) (c.in_default.ensures.ok
+    (right_of_start f.program g.M.Machine.form (written_of c.args.text.now.start) (g.M.State.View.view c.in_ok-state.state) (c.in_ok-state.ensures calls))) in
     subst (λ (l : List CallState). IfOk c.compared.result (λ r. plain_answer r.status r.text.items
     ≡ call_run_answer f n (start_called g.M.Machine.machine g.M.Machine.form c.args.frame.now (written_of c.args.text.now.start) (map written_call_of l))
     (map written_call_of l))) c.as_slice-calls.ensures.value

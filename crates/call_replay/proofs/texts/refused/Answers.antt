@@ -1,11 +1,9 @@
-use Rattle.std.proofs.Common.{◌≡◌, IfOk, ap, sym, subst, ◌∙◌}
-use Rattle.word_spec.specs.Texts.{number_text}
-use Rattle.call_spec.specs.Calls.{Answer, plain_answer}
+use Rattle.std.proofs.Common.{◌≡◌, IfOk, sym, subst}
+use Rattle.call_spec.specs.Calls.{plain_answer}
 use Rattle.frame_texts_spec.specs.CallReplays.{call_told_answer}
 use Rattle.frame_texts_spec.specs.CallTexts.{CallRefused}
 use Rattle.call_text.specs.Blocks.{call_fault_of}
 use Rattle.call_text.specs.declared.fault.CallFault.{CallFault}
-use Rattle.call_replay.proofs.Replayed.{block_text}
 use Rattle.call_replay.proofs.texts.refused.Goals as goal
 
 pub returns-in-OfFramed : goal.returns-in-OfFramed
@@ -15,6 +13,5 @@ returns-in-OfFramed c w layout =
 
 pub returns-in-Block : goal.returns-in-Block
 returns-in-Block c w layout =
-    subst (λ (a : Answer). IfOk c.numbered.result (λ r. plain_answer r.status r.text.items ≡ a))
-    (ap (plain_answer 9) (block_text (number_text c.args.refusal.line))
-    ∙ sym (ap (λ (k : CallFault). call_told_answer w layout (CallRefused c.args.refusal.line (call_fault_of k))) c.in-Block.is)) c.numbered.ensures
+    subst (λ (k : CallFault). IfOk c.bad_block.result (λ r. plain_answer r.status r.text.items
+    ≡ call_told_answer w layout (CallRefused c.args.refusal.line (call_fault_of k)))) (sym c.in-Block.is) (c.bad_block.ensures w layout)

@@ -1,7 +1,8 @@
 use Rattle.std.proofs.Common.{◌≡◌, ℕ, Bool, List, subst, sym}
 use Rattle.bilv_spec.specs.Files.{program_of}
 use Rattle.call_spec.specs.Calls.{plain_answer}
-use Rattle.frame_texts_spec.specs.FrameReplays.{TellsReturns, frame_replay_answer}
+use Rattle.frame_texts_spec.specs.CallReplays.{call_replay_answer}
+use Rattle.frame_texts_spec.specs.FrameReplays.{TellsReturns}
 use Rattle.notes_value.specs.NoteViews.{notes_of}
 use Rattle.frame_replay.specs.Readings.{is_among, whole_by}
 use Rattle.frame_replay.proofs.Returned.{one_test}
@@ -19,4 +20,4 @@ returns-clause-answer g c = λ returns tells.
     let listed = subst (λ (l : List ℕ). TellsReturns p (is_among l)) (sym c.deref.ensures.value)
     (c.in_ok-returns.ensures.returns p c.in_ok-graph.ensures.graph) in
     subst (λ (f : ℕ → Bool). plain_answer c.in_ok-replay.replay.status c.in_ok-replay.replay.text.items
-    ≡ frame_replay_answer w f g.M.Machine.form c.args.text.now) (one_test p (is_among c.deref.result.now) returns listed tells) c.in_ok-replay.ensures
+    ≡ call_replay_answer w f g.M.Machine.form c.args.text.now) (one_test p (is_among c.deref.result.now) returns listed tells) c.in_ok-replay.ensures
