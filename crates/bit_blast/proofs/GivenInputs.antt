@@ -300,6 +300,22 @@ none_in (x ∷ xs) = none_in xs ∙ ap (λ b. if b then x ∷ filter (is_in 0) x
         let below : 0 < 2 ^ n = omega (arith, grows) in
         ap (λ k. k % 2 == 1) (div-eq_of_lt below)
 
+-- so no number has inputs, and none is listed
+empty_left : (set from count : ℕ) → set ≡ 0 → [] ≡ filter (is_in set) (from_to from count)
+empty_left set from count e = none_in (from_to from count) ∙ ap (λ z. filter (is_in z) (from_to from count)) (sym e)
+
+pub empty_numbered : (set from count first width : ℕ) (ps : List (Option ℕ)) → set ≡ 0 → ps ≡ [] →
+    AreNumbered (filter (is_in set) (from_to from count)) first width ps
+empty_numbered set from count first width ps e f =
+    subst (λ (z : List ℕ). AreNumbered z first width ps) (empty_left set from count e) (record {
+      right = λ n k g. absurd (none_at 0 n k (ap (λ (l : List (Option ℕ)). slice_index_or l n None) (sym f) ∙ g));
+      each = λ n q g. absurd (cc);
+    })
+
+pub empty_behind : (set from count first width : ℕ) → set ≡ 0 → first ≡ first + width * length (filter (is_in set) (from_to from count))
+empty_behind set from count first width e =
+    (let z : first ≡ first + width * 0 = omega arith in z) ∙ ap (λ (l : List ℕ). first + width * length l) (empty_left set from count e)
+
 -- members of a filtered range
 any_outside : (P : ℕ → Bool) (f n r : ℕ) → r < f → list_any (nat_eq r) (filter P (from_to f n)) ≡ false
 any_outside P f zero r l = refl

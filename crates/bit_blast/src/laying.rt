@@ -1,10 +1,9 @@
 //! Where the inputs of cells stand.
-ghost use Rattle.std.specs.Prelude.{◌≡◌, ◌<◌, ◌≤◌, ◌+◌, ◌*◌, ◌^◌, ◌++◌, ◌∷◌, [], if◌then◌else◌, filter, length, map, replicate, slice_index_or, IfOk, OnOk};
+ghost use Rattle.std.specs.Prelude.{◌≡◌, ◌<◌, ◌≤◌, ◌+◌, ◌*◌, ◌^◌, ◌++◌, ◌∷◌, [], if◌then◌else◌, filter, length, map, replicate, IfOk, OnOk};
 ghost use Rattle.word_spec.specs.RowFiles.{from_to};
 ghost use Rattle.notes_value.specs.FrameViews as sets;
-ghost use Rattle.question_form.specs.Views.{no_code, unrolled_of};
+ghost use Rattle.question_form.specs.Views.{unrolled_of};
 ghost use Rattle.question_form.specs.FrameViews.{frame_unrolled_of};
-ghost use Rattle.start_value.specs.Starts.{layout_of};
 ghost use Rattle.question_form.specs.FrameQuestions.{heads_of_question};
 ghost use Rattle.mem_cells.specs.FrameViews.{frame_cells_of, frame_of_cells, read_of};
 ghost use Rattle.mem_cells.specs.Views.{cells_of, program_of_cells};
@@ -15,7 +14,6 @@ ghost use Rattle.bit_blast.specs.Laid.{AreAdded, AreDrawn, AreFramePlaces, AreGi
 use crate::input_places::{InputPlaces, PartRead};
 use mem_cells::{BaseRead, Celled};
 use question_form::{Deed, Unrolled};
-use start_value::Layout;
 use std::alloc::{AllocError, Global};
 
 /// How many points, addresses or base reads there are at most, so that 32 bits name each input.
@@ -31,28 +29,6 @@ struct Choices {
     count: u32,
 }
 
-/// The number of the first register.
-fn first_register(form: Layout) -> u8
-    ensures { result ≡ (layout_of form).first }
-{
-    match form {
-        Layout::Rv32 { .. } => 1,
-        Layout::Arm { .. } => 0,
-    }
-}
-
-/// Whether the row of a code reads the choice; there is nothing behind the last code.
-fn draws(unrolled: &Unrolled, code: u32) -> bool
-    ensures { result ≡ (slice_index_or unrolled.now.codes.items code no_code).draws }
-{
-    let place = code as usize;
-    if place < unrolled.codes.len() {
-        unrolled.codes[place].draws
-    } else {
-        false
-    }
-}
-
 /// The choices that are drawn, in the order of their places.
 fn choices_of(alloc: Global, unrolled: &Unrolled) -> Result<Choices, AllocError>
     requires { length unrolled.now.points.items ≤ 2 ^ 28 }
@@ -61,7 +37,7 @@ fn choices_of(alloc: Global, unrolled: &Unrolled) -> Result<Choices, AllocError>
     let mut drawn = Vec::with_capacity(alloc, unrolled.points.len())?;
     let mut count = 0u32;
     for i in 0..unrolled.points.len() {
-        if draws(unrolled, unrolled.points[i].code) {
+        if unrolled.draws(unrolled.points[i].code) {
             drawn.push(Some(count))?;
             count += 1;
         } else {
@@ -78,7 +54,7 @@ fn drawing_points(unrolled: &Unrolled) -> u64
 {
     let mut count = 0;
     for i in 0..unrolled.points.len() {
-        if draws(unrolled, unrolled.points[i].code) {
+        if unrolled.draws(unrolled.points[i].code) {
             count += 1;
         }
     }
@@ -113,7 +89,7 @@ struct Numbered {
     behind: u32,
 }
 
-/// Gives each number of a range that is in a set so many inputs, from one on.
+/// Gives each number of a range that is in a set so many inputs, from one on. Nothing is listed for an empty set, which nearly all points have.
 fn give_inputs(
     alloc: Global,
     set: u32,
@@ -129,6 +105,12 @@ fn give_inputs(
     ensures behind { IfOk result (λ n. n.behind ≡ first + width * length (filter (sets.is_in set) (from_to from count))) }
     ensures few { IfOk result (λ n. n.behind ≤ first + 1024) }
 {
+    if set == 0 {
+        return Ok(Numbered {
+            places: Vec::new(alloc),
+            behind: first,
+        });
+    }
     let mut places = vec![in alloc; None; from as usize]?;
     let mut behind = first;
     for i in 0..count {
@@ -210,7 +192,7 @@ fn gifts_of(alloc: Global, unrolled: &Unrolled, first: u32) -> Result<Gifts, All
     ensures behind { IfOk result (λ g. first ≤ g.behind) }
     ensures few { IfOk result (λ g. g.behind ≤ 2 ^ 30 + 2048) }
 {
-    let from = first_register(unrolled.form);
+    let (from, _) = unrolled.form.registers();
     let registers = unrolled.form.register_count() as u8;
     let flags = unrolled.form.flag_count();
     let mut gifts = Gifts {
@@ -289,6 +271,7 @@ pub fn places_of(alloc: Global, c: &Celled) -> Result<InputPlaces, AllocError>
         return Err(AllocError);
     }
     let choices = choices_of(alloc, unrolled)?;
+    let (first_register, _) = unrolled.form.registers();
     let registers = unrolled.form.register_count() as u8;
     let flags = unrolled.form.flag_count();
     let first_flag = 32 * registers as u32;
@@ -299,7 +282,7 @@ pub fn places_of(alloc: Global, c: &Celled) -> Result<InputPlaces, AllocError>
     let part_reads = part_reads(alloc, &c.reads, c.addresses.len())?;
     let reads = c.reads.len() as u32;
     Ok(InputPlaces {
-        first_register: first_register(unrolled.form),
+        first_register,
         registers,
         flags,
         heads: unrolled.heads,

@@ -22,8 +22,6 @@ pub struct Evaluated<'a> {
     pub places: InputPlaces,
     /// What terms are read under in the entry's part, with the choices of the points. The memory is empty.
     pub entry: Reading,
-    /// What they are read under in the head's and in the gifts of all places, but for their memories.
-    pub others: Vec<Reading>,
     /// The base reads of all parts, with their bytes.
     pub reads: Reads,
 }
@@ -57,7 +55,6 @@ pub fn evaluate<'a>(
         values,
         places,
         entry,
-        others,
         reads,
     })
 }

@@ -4,7 +4,6 @@ ghost use Rattle.question_form.specs.Views.{unrolled_of};
 ghost use Rattle.model_verdict.specs.Readings.{AreDrawn};
 
 use question_form::Unrolled;
-use smtlib_print::draws;
 use std::alloc::{AllocError, Global};
 
 /// For each number of a point whether its row reads the choice; the numbers are those of the points by their places. The error is want of memory.
@@ -20,7 +19,7 @@ pub fn drawn_by_number(
 {
     let mut drawn = vec![in alloc; false; numbers.len()]?;
     for place in 0..numbers.len() {
-        drawn[numbers[place] as usize] = draws(unrolled, unrolled.points[place].code);
+        drawn[numbers[place] as usize] = unrolled.draws(unrolled.points[place].code);
     }
     Ok(drawn)
 }

@@ -1,4 +1,7 @@
 //! The unrolled program.
+ghost use Rattle.std.specs.Prelude.{◌≡◌, slice_index_or};
+ghost use Rattle.question_form.specs.Views.{no_code};
+
 use bil_ast::Stmt;
 use known_bytes::Known;
 use notes_value::{Contract, Notes};
@@ -124,4 +127,18 @@ pub struct Unrolled<'a> {
     pub codes: Vec<Code>,
     pub points: Vec<Point>,
     pub edges: Vec<Edge>,
+}
+
+impl<'a> Unrolled<'a> {
+    /// Whether the row of a code reads the choice; there is nothing after the last code.
+    pub fn draws(&self, code: u32) -> bool
+        ensures { result ≡ (slice_index_or self.now.codes.items code no_code).draws }
+    {
+        let place = code as usize;
+        if place < self.codes.len() {
+            self.codes[place].draws
+        } else {
+            false
+        }
+    }
 }

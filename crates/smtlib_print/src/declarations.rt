@@ -2,7 +2,6 @@
 ghost use Rattle.std.specs.Prelude.{◌≡◌, ◌≤◌, ◌<◌, ◌+◌, ◌-◌, ◌++◌, ◌∷◌, [], codes, length, map, slice_index_or, string_bytes, OnOk};
 ghost use Rattle.bilv_spec.specs.SmtLib.{Atom};
 ghost use Rattle.start_value.specs.Starts.{layout_of};
-ghost use Rattle.question_form.specs.Views.{no_code};
 ghost use Rattle.smtlib_print.specs.Commands as commands;
 ghost use Rattle.smtlib_print.specs.Scripted.{draws_of};
 ghost use Rattle.smtlib_print.specs.Written.{commands_text, written};
@@ -11,16 +10,6 @@ use crate::words::{push_flag, push_memory, push_register};
 use question_form::Unrolled;
 use start_value::Layout;
 use std::alloc::AllocError;
-
-/// The number of the first register of a form.
-pub fn first_register(form: Layout) -> u8
-    ensures { result ≡ (layout_of form).first }
-{
-    match form {
-        Layout::Rv32 { .. } => 1,
-        Layout::Arm { .. } => 0,
-    }
-}
 
 /// Appends the declaration of a register of a part.
 fn declare_register(
@@ -61,7 +50,7 @@ fn declare_registers(out: &mut String, form: Layout, part: u32) -> Result<(), Al
     ensures { OnOk result (string_bytes out.new ≡ string_bytes out.old
         ++ commands_text (commands.declarations (commands.word_sort (Atom (codes "32"))) (commands.part_names part (layout_of form).registers))) }
 {
-    let first = first_register(form);
+    let (first, _) = form.registers();
     let count = form.register_count();
     prove!(count <= 31);
     for place in 0..count {
@@ -111,18 +100,6 @@ pub fn declare_head(out: &mut String, form: Layout, heads: bool) -> Result<(), A
     declare_part(out, form, 1)
 }
 
-/// Whether the row of a code reads the choice; there is nothing behind the last code.
-pub fn draws(unrolled: &Unrolled, code: u32) -> bool
-    ensures { result ≡ (slice_index_or unrolled.now.codes.items code no_code).draws }
-{
-    let place = code as usize;
-    if place < unrolled.codes.len() {
-        unrolled.codes[place].draws
-    } else {
-        false
-    }
-}
-
 /// Appends the declaration of the choice of a point by its number, if its row reads the choice.
 fn declare_choice(out: &mut String, drawn: bool, number: u32) -> Result<(), AllocError>
     ensures { OnOk result (string_bytes out.new
@@ -146,7 +123,7 @@ pub fn declare_choices(
         ++ commands_text (commands.declarations (commands.word_sort (Atom (codes "2"))) (commands.drawn numbers.now (draws_of unrolled.now)))) }
 {
     for place in 0..unrolled.points.len() {
-        let drawn = draws(unrolled, unrolled.points[place].code);
+        let drawn = unrolled.draws(unrolled.points[place].code);
         declare_choice(out, drawn, numbers[place])?;
     }
     Ok(())

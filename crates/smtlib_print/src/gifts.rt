@@ -9,7 +9,6 @@ ghost use Rattle.frame_spec.specs.FrameScripts.{changed_flags, changed_registers
 ghost use Rattle.smtlib_print.specs.Scripted.{given_by, given_of, givens_of};
 ghost use Rattle.smtlib_print.specs.Written.{commands_text};
 
-use crate::declarations::first_register;
 use crate::words::{flag_name, push_given_prefix, push_register_name};
 use notes_value::Contract;
 use question_form::{Deed, Unrolled};
@@ -95,7 +94,7 @@ fn declare_registers(
         ++ commands_text (commands.declarations (commands.word_sort (Atom (codes "32"))) (map (of_given number)
         (changed_registers (filter (is_in set) (from_to 0 32)) (layout_of form).first (layout_of form).registers)))) }
 {
-    let first = first_register(form);
+    let (first, _) = form.registers();
     let count = form.register_count();
     prove!(count <= 31);
     for place in 0..count {

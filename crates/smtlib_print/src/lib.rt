@@ -12,7 +12,6 @@ mod scripts;
 mod terms;
 mod words;
 
-pub use declarations::draws;
 pub use laws::{scripts_are_of_frames, scripts_are_of_programs, scripts_tell};
 pub use numbering::{frame_numbers, numbers};
 pub use ordering::frame;

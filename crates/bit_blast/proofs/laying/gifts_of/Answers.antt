@@ -8,7 +8,7 @@ use Rattle.bit_blast.proofs.laying.gifts_of.Goals as goal
 
 pub add_registers-requires-clause-range : goal.add_registers-requires-clause-range
 add_registers-requires-clause-range c =
-    let few = few_numbers c.args.unrolled.now.form in omega (arith, few, c.first_register-from.ensures, c.register_count-registers.ensures)
+    let few = few_numbers c.args.unrolled.now.form in omega (arith, few, c.registers-from.ensures.first, c.register_count-registers.ensures)
 
 pub add_flags-requires-clause-range : goal.add_flags-requires-clause-range
 add_flags-requires-clause-range c = let few = few_flags c.args.unrolled.now.form in omega (arith, few, c.flag_count-flags.ensures)
@@ -23,10 +23,10 @@ pub loop-i-preserved : goal.loop-i-preserved
 loop-i-preserved c =
     let v = c.args.unrolled.now in
     let l : c.loop-i.i < length v.points.items = omega (arith, c.len-i-end.ensures, c.loop-i-test.true) in (
-      gifts_step v c.args.first c.loop-i.i c.first_register-from.result c.register_count-registers.result c.flag_count-flags.result c.index.result.now
+      gifts_step v c.args.first c.loop-i.i c.registers-from.result.0 c.register_count-registers.result c.flag_count-flags.result c.index.result.now
           c.given_sets-register_set.result c.loop-i.gifts.registers c.loop-i.gifts.flags c.add_registers.new.self.registers c.add_registers.new.self.flags
           c.add_flags.new.self.registers c.add_flags.new.self.flags c.loop-i.gifts.behind c.add_registers.new.self.behind c.add_flags.new.self.behind
-          c.first_register-from.ensures c.register_count-registers.ensures c.flag_count-flags.ensures l c.index.ensures c.given_sets-register_set.ensures
+          c.registers-from.ensures.first c.register_count-registers.ensures c.flag_count-flags.ensures l c.index.ensures c.given_sets-register_set.ensures
           c.loop-i.invariant.0 c.in_ok-add_registers.ensures.added c.in_ok-add_registers.ensures.flags c.in_ok-add_flags.ensures.added
           c.in_ok-add_flags.ensures.registers,
       omega (arith, c.in_ok-add_registers.ensures.few, c.in_ok-add_flags.ensures.few, c.if-gifts-gt-LAST_GIVEN.false),

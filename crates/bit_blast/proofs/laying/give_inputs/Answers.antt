@@ -1,8 +1,15 @@
 use Rattle.std.proofs.Common.{◌∙◌, ap, sym, arith}
 use Rattle.std.proofs.Math.Facts.{Fits-of_lt}
-use Rattle.bit_blast.proofs.GivenInputs.{numbered_in, numbered_out, numbered_all}
+use Rattle.bit_blast.proofs.GivenInputs.{empty_behind, empty_numbered, numbered_in, numbered_out, numbered_all}
 use Rattle.bit_blast.proofs.laying.give_inputs.Goals as goal
 use Rattle.bit_blast.proofs.laying.give_inputs.Goals.{then-is_in+in_ok-push, else-is_in+in_ok-push-2}
+
+pub returns-then-set-eq0-clause-are : goal.returns-then-set-eq0-clause-are
+returns-then-set-eq0-clause-are c =
+    empty_numbered c.args.set c.args.from c.args.count c.args.first c.args.width c.new.result.items c.if-set-eq0.true c.new.ensures.items
+
+pub returns-then-set-eq0-clause-behind : goal.returns-then-set-eq0-clause-behind
+returns-then-set-eq0-clause-behind c = empty_behind c.args.set c.args.from c.args.count c.args.first c.args.width c.if-set-eq0.true
 
 pub overflow_add-behind : goal.overflow_add-behind
 overflow_add-behind c =

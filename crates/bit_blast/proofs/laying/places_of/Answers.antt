@@ -53,17 +53,17 @@ gifts_of-requires c =
 pub returns-clause-frame : goal.returns-clause-frame
 returns-clause-frame c =
     let k = c.args.c.now in
-    frame_laid k _ (laid k c.first_register.result c.register_count-registers.result c.flag_count-flags.result c.in_ok-choices.choices.count c.len-reads.result
+    frame_laid k _ (laid k c.registers-first_register.result.0 c.register_count-registers.result c.flag_count-flags.result c.in_ok-choices.choices.count c.len-reads.result
     c.behind_states-first_choice.result c.in_ok-gifts.gifts.behind c.len-2.result c.in_ok-choices.choices.drawn c.in_ok-gifts.gifts.registers
-    c.in_ok-gifts.gifts.flags c.in_ok-part_reads.part_reads c.first_register.ensures c.register_count-registers.ensures c.flag_count-flags.ensures
+    c.in_ok-gifts.gifts.flags c.in_ok-part_reads.part_reads c.registers-first_register.ensures.first c.register_count-registers.ensures c.flag_count-flags.ensures
     c.behind_states-first_choice.ensures c.in_ok-choices.ensures c.in_ok-gifts.ensures.are c.in_ok-gifts.ensures.behind
     (c.len-reads.ensures ∙ k.reads.ok.0) (c.len-2.ensures ∙ k.addresses.ok.0) (rw c.deref.ensures.value at c.in_ok-part_reads.ensures))
 
 pub returns-clause-flat : goal.returns-clause-flat
 returns-clause-flat c =
     let k = c.args.c.now in
-    flat_laid k _ (laid k c.first_register.result c.register_count-registers.result c.flag_count-flags.result c.in_ok-choices.choices.count c.len-reads.result
+    flat_laid k _ (laid k c.registers-first_register.result.0 c.register_count-registers.result c.flag_count-flags.result c.in_ok-choices.choices.count c.len-reads.result
     c.behind_states-first_choice.result c.in_ok-gifts.gifts.behind c.len-2.result c.in_ok-choices.choices.drawn c.in_ok-gifts.gifts.registers
-    c.in_ok-gifts.gifts.flags c.in_ok-part_reads.part_reads c.first_register.ensures c.register_count-registers.ensures c.flag_count-flags.ensures
+    c.in_ok-gifts.gifts.flags c.in_ok-part_reads.part_reads c.registers-first_register.ensures.first c.register_count-registers.ensures c.flag_count-flags.ensures
     c.behind_states-first_choice.ensures c.in_ok-choices.ensures c.in_ok-gifts.ensures.are c.in_ok-gifts.ensures.behind
     (c.len-reads.ensures ∙ k.reads.ok.0) (c.len-2.ensures ∙ k.addresses.ok.0) (rw c.deref.ensures.value at c.in_ok-part_reads.ensures))

@@ -11,8 +11,8 @@ pub loop-place-preserved : goal.loop-place-preserved
 loop-place-preserved c =
     let p = c.args.part in
     let names = (layout_of c.args.form).registers in
-    let z : (c.first_register-first.result + c.loop-place.place) - (layout_of c.args.form).first ≡ c.loop-place.place =
-    omega (arith, c.first_register-first.ensures) in
+    let z : (c.registers-first.result.0 + c.loop-place.place) - (layout_of c.args.form).first ≡ c.loop-place.place =
+    omega (arith, c.registers-first.ensures.first) in
     let l : c.loop-place.place < length names = omega (arith, c.loop-place-test.true, c.register_count-count.ensures) in
     name_more (word_sort (Atom (codes "32"))) (part_names p names) c.loop-place.place _ (string_bytes c.loop-place.out)
     (string_bytes c.declare_register.new.out) _ (let n = part_count p names in omega (arith, l, n))

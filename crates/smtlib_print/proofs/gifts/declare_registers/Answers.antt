@@ -13,10 +13,10 @@ pub loop-place-preserved : goal.loop-place-preserved
 loop-place-preserved c =
     let layout = layout_of c.args.form in
     let changed = filter (is_in c.args.set) (from_to 0 32) in
-    let first = c.first_register-first.result in
+    let first = c.registers-first.result.0 in
     let i = c.loop-place.place in
-    let z : (first + i) - layout.first ≡ i = omega (arith, c.first_register-first.ensures) in
-    let e : first + i ≡ layout.first + i = omega (arith, c.first_register-first.ensures) in
+    let z : (first + i) - layout.first ≡ i = omega (arith, c.registers-first.ensures.first) in
+    let e : first + i ≡ layout.first + i = omega (arith, c.registers-first.ensures.first) in
     let l : i < length layout.registers = omega (arith, c.loop-place-test.true, c.register_count-count.ensures) in
     let few = few_registers c.args.form in
     register_more (word_sort (Atom (codes "32"))) c.args.number changed layout.first layout.registers i c.is_in.result _ (string_bytes c.loop-place.out)
