@@ -8,9 +8,10 @@ ghost use Rattle.refutation_checker.specs.Answers.{cause_of};
 ghost use Rattle.refutation_checker.specs.Slots.{true_in, AreUpTo, IsWithin};
 ghost use Rattle.refutation_checker.specs.Entries.{look_up, ids_of, IsRising};
 
+use crate::assignment::look_at;
 use crate::cause::Cause;
 use crate::entries::{Entry, find};
-use crate::slots::{Look, Slot, assign, deny, look_at};
+use crate::slots::{AtLine, Look, Slot, assign, deny};
 use cnf_form::{Clause, Hint, Lit, LogLine};
 
 /// The greatest number of a log.
@@ -38,7 +39,8 @@ pub fn follow(
         let Some(clause) = find(entries, id) else {
             return Some(Cause::UnknownHint);
         };
-        match look_at(names, slots, line, clause.lits()) {
+        let at_line = AtLine { names, slots, line };
+        match look_at(&at_line, clause.lits()) {
             Look::Conflict => return None,
             Look::Unit(lit) => assign(names, slots, line, lit),
             Look::Other => return Some(Cause::NotUnit),

@@ -4,6 +4,7 @@
 //! A log that adds the empty clause in this way is a refutation: no values satisfy the clauses.
 #![tactic(auto)]
 
+mod assignment;
 mod cause;
 mod entries;
 mod judge;
@@ -13,7 +14,9 @@ mod print;
 mod read;
 mod slots;
 
+pub use assignment::{Assignment, look_at};
 pub use cause::{Cause, Checked};
 pub use marks::{Marks, check, check_line};
 pub use print::print_lrat;
 pub use read::read_lrat;
+pub use slots::Look;

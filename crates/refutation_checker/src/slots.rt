@@ -5,10 +5,11 @@
 ghost use Rattle.std.specs.Prelude.{◌≡◌, ℕ, ◌<◌, ◌^◌, true, false, length};
 ghost use Rattle.clause_spec.specs.Clauses.{Literal, opposite};
 ghost use Rattle.clause_spec.specs.UnitPropagation.{negations};
-ghost use Rattle.clause_spec.specs.Refutation.{added, look_of, is_tautology};
+ghost use Rattle.clause_spec.specs.Refutation.{added, is_tautology};
 ghost use Rattle.refutation_checker.specs.Entries.{IsRising};
-ghost use Rattle.refutation_checker.specs.Slots.{true_in, place_of, AreUpTo, IsWithin, seen_as};
+ghost use Rattle.refutation_checker.specs.Slots.{true_in, place_of, AreUpTo, IsWithin};
 
+use crate::assignment::Assignment;
 use crate::names::place;
 use cnf_form::Lit;
 
@@ -19,7 +20,7 @@ pub struct Slot {
     pub positive: bool,
 }
 
-/// What a clause is under the values of a line.
+/// What a clause is under an assignment.
 #[derive(Clone, Copy)]
 pub enum Look {
     /// Every literal is false.
@@ -37,6 +38,24 @@ pub fn is_true(names: &[u64], slots: &[Slot], line: usize, lit: Lit) -> bool
 {
     let slot = slots[place(names, lit.variable())];
     slot.line == line && slot.positive == lit.is_positive()
+}
+
+/// The values of a line.
+#[derive(Clone, Copy)]
+pub struct AtLine<'a> {
+    pub names: &'a [u64],
+    pub slots: &'a [Slot],
+    pub line: usize,
+}
+
+impl<'a> Assignment for AtLine<'a> {
+    ghost true_in = { λ it. true_in it.line it.names.now it.slots.now };
+
+    ghost covers = { λ it v. IsRising it.names.now × (place_of it.names.now v < length it.slots.now) };
+
+    fn is_true(&self, lit: Lit) -> bool {
+        is_true(self.names, self.slots, self.line, lit)
+    }
 }
 
 /// Makes a literal true at the line.
@@ -61,37 +80,6 @@ pub fn forget(slots: &mut [Slot])
         line: 0,
         positive: false,
     });
-}
-
-/// What the clause is at the line.
-pub fn look_at(names: &[u64], slots: &[Slot], line: usize, clause: &[Lit]) -> Look
-    requires rising { IsRising names.now }
-    requires within { IsWithin names.now (length slots.now) clause.now }
-    ensures { seen_as result ≡ look_of (true_in line names.now slots.now) clause.now }
-{
-    let mut open = None;
-    for lit in clause {
-        if !is_true(names, slots, line, lit.opposite()) {
-            match open {
-                None => open = Some(*lit),
-                Some(first) => {
-                    if !lit.is_same(first) {
-                        return Look::Other;
-                    }
-                }
-            }
-        }
-    }
-    match open {
-        None => Look::Conflict,
-        Some(lit) => {
-            if is_true(names, slots, line, lit) {
-                Look::Other
-            } else {
-                Look::Unit(lit)
-            }
-        }
-    }
 }
 
 /// Makes every literal of a clause false at a line that has set nothing, and says whether that failed: whether a literal stands beside its opposite.

@@ -1,7 +1,6 @@
 pub mod Literals
 pub mod Quiet
 pub mod Places
-pub mod Seen
 pub mod Backwards
 pub mod Shorter
 pub mod Learning

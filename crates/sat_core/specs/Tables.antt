@@ -1,9 +1,6 @@
 -- Tables of the variables' values.
 use Rattle.std.specs.Prelude.{◌≢◌, ℕ, ◌+◌, ◌≤◌, ◌<◌, Bool, false, List, [], ◌∷◌, Option, Some, None, slice_index_or, length}
 use Rattle.clause_spec.specs.Clauses.{Literal, same_sign}
-use Rattle.clause_spec.specs.Refutation as refutation
-use Rattle.sat_core.specs.declared.table.Look.{Look}
-use Rattle.sat_core.specs.declared.table.Look.TheVariants.{Conflict, Unit as UnitOf, Other}
 
 -- the value is this one
 abbrev pub value_is : Option Bool → Bool → Bool
@@ -28,9 +25,3 @@ IsFilled table = (v : ℕ) → 1 ≤ v → v < length table → slice_index_or t
 abbrev pub is_set : Option Bool → Bool
 is_set None = false
 is_set (Some b) = b
-
--- what is seen of a clause
-abbrev pub seen_as : Look → refutation.Look
-seen_as Conflict = refutation.Conflict
-seen_as (UnitOf l) = refutation.UnitOf l
-seen_as Other = refutation.Other

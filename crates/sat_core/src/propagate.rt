@@ -9,11 +9,12 @@ ghost use Rattle.sat_core.specs.Trails.{nothing, IsTrail, IsRun};
 ghost use Rattle.sat_core.specs.Links.{AreKept};
 ghost use Rattle.sat_core.specs.Moves.{IsShort, AreMet, AreReady};
 
-use crate::table::{Look, look_at};
+use crate::table::ByTable;
 use crate::trail::Trail;
 use crate::visit::visit;
 use crate::watches::Watches;
 use cnf_form::Clause;
+use refutation_checker::{Look, look_at};
 
 /// Makes the literal of each clause true that has only one. `Some` is the place of a clause whose literals are all false. Takes no memory.
 fn assert_short(clauses: &[Clause], short: &[usize], trail: &mut Trail) -> Option<usize>
@@ -29,7 +30,10 @@ fn assert_short(clauses: &[Clause], short: &[usize], trail: &mut Trail) -> Optio
     ensures conflict { IfSome result (λ k. IsConflictAt clauses.now (true_in trail.new.table.items) k) }
 {
     for k in short {
-        match look_at(&trail.table, clauses[*k].lits()) {
+        let by_table = ByTable {
+            table: &trail.table,
+        };
+        match look_at(&by_table, clauses[*k].lits()) {
             Look::Conflict => return Some(*k),
             Look::Unit(lit) => trail.push(*k, lit),
             Look::Other => (),

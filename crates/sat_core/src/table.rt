@@ -1,23 +1,14 @@
 //! Tables of the variables' values, some of which are open.
 //!
 //! A table has a place for each variable, and one for the number 0, which is no variable.
-ghost use Rattle.std.specs.Prelude.{◌≡◌, ◌+◌, ◌-◌, ◌<◌, ◌≤◌, false, length, map, drop, slice_index_or, IfOk};
-ghost use Rattle.clause_spec.specs.Clauses.{Literal, opposite, IsOnVariables};
-ghost use Rattle.clause_spec.specs.Refutation.{added, look_of};
-ghost use Rattle.sat_core.specs.Tables.{true_in, open_count, seen_as, is_set};
+ghost use Rattle.std.specs.Prelude.{◌≡◌, ◌+◌, ◌<◌, ◌≤◌, false, length, map, drop, slice_index_or, IfOk};
+ghost use Rattle.clause_spec.specs.Clauses.{Literal, opposite};
+ghost use Rattle.clause_spec.specs.Refutation.{added};
+ghost use Rattle.sat_core.specs.Tables.{true_in, open_count, is_set};
 
 use cnf_form::Lit;
+use refutation_checker::Assignment;
 use std::alloc::{AllocError, Global};
-
-/// What a clause is under a table.
-#[derive(Clone, Copy)]
-pub enum Look {
-    /// Every literal is false.
-    Conflict,
-    /// One literal is open, and every other is false.
-    Unit(Lit),
-    Other,
-}
 
 /// Whether the table makes the literal true.
 pub fn is_true(table: &[Option<bool>], lit: Lit) -> bool
@@ -30,6 +21,22 @@ pub fn is_true(table: &[Option<bool>], lit: Lit) -> bool
     }
 }
 
+/// The values of a table.
+#[derive(Clone, Copy)]
+pub struct ByTable<'a> {
+    pub table: &'a [Option<bool>],
+}
+
+impl<'a> Assignment for ByTable<'a> {
+    ghost true_in = { λ it. true_in it.table.now };
+
+    ghost covers = { λ it v. v < length it.table.now };
+
+    fn is_true(&self, lit: Lit) -> bool {
+        is_true(self.table, lit)
+    }
+}
+
 /// Makes a literal true that is not false.
 pub fn assign(table: &mut [Option<bool>], lit: Lit)
     requires within { lit.variable < length table.old }
@@ -38,36 +45,6 @@ pub fn assign(table: &mut [Option<bool>], lit: Lit)
     ensures fewer { true_in table.old lit ≡ false → open_count table.new + 1 ≡ open_count table.old }
 {
     table[lit.variable() as usize] = Some(lit.is_positive());
-}
-
-/// What the clause is under the table.
-pub fn look_at(table: &[Option<bool>], clause: &[Lit]) -> Look
-    requires { IsOnVariables (length table.now - 1) clause.now }
-    ensures { seen_as result ≡ look_of (true_in table.now) clause.now }
-{
-    let mut open = None;
-    for lit in clause {
-        if !is_true(table, lit.opposite()) {
-            match open {
-                None => open = Some(*lit),
-                Some(first) => {
-                    if !lit.is_same(first) {
-                        return Look::Other;
-                    }
-                }
-            }
-        }
-    }
-    match open {
-        None => Look::Conflict,
-        Some(lit) => {
-            if is_true(table, lit) {
-                Look::Other
-            } else {
-                Look::Unit(lit)
-            }
-        }
-    }
 }
 
 /// The values of the variables from 1 on. One that is open is taken as false.

@@ -3,7 +3,6 @@ use Rattle.std.proofs.lemmas.Option.{slice_get_within}
 use Rattle.clause_spec.specs.Clauses.{same}
 use Rattle.clause_spec.specs.Refutation.{look_of}
 use Rattle.clause_spec.proofs.Looks.{look-unit, same-self, or_left, or_right}
-use Rattle.clause_spec.proofs.RefutationSound.{get-contains}
 use Rattle.sat_core.specs.declared.trail.Step.{Step}
 use Rattle.sat_core.specs.Tables.{true_in}
 use Rattle.sat_core.proofs.Backwards.{clause-read}
@@ -29,7 +28,8 @@ look_at-requires c =
     let k = get_or c.args.short.now c.loop-k.k-index 0 in
     let s = c.requires.short c.loop-k.k-index c.loop-k-test.true in
     let q = clause-read cs k s.0 c.index-clauses-k.result s.1 c.index-clauses-k.is in
-    rw (c.lits.ensures, q, c.deref.ensures.value, c.loop-k.invariant.size) (c.requires.over s.0 (get-contains cs k s.0 s.1))
+    rw (c.lits.ensures, q, c.deref.ensures.value, c.loop-k.invariant.size)
+    (λ l of. has-within (length c.args.trail.now.table.items) cs k l c.requires.over (s.0, s.1, of))
 
 pub returns-in-Conflict-clause-conflict : goal.returns-in-Conflict-clause-conflict
 returns-in-Conflict-clause-conflict c =

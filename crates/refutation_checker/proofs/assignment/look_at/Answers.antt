@@ -1,17 +1,18 @@
 use Rattle.std.proofs.Common.{sym, ◌∙◌, ap, ◌≡◌}
-use Rattle.clause_spec.specs.Clauses.{opposite}
-use Rattle.refutation_checker.specs.Slots.{true_in}
+use Rattle.clause_spec.specs.Clauses.{Literal, opposite}
 use Rattle.refutation_checker.proofs.Seen.{has-item, resume-false, resume-first, resume-same}
-use Rattle.refutation_checker.proofs.slots.look_at.Goals as goal
-use Rattle.refutation_checker.proofs.slots.look_at.Goals.{then-not-is_true+in-None, then-not-is_true+in-Some+else-not-is_same, else-not-is_true}
+use Rattle.refutation_checker.proofs.assignment.look_at.Goals as goal
+use Rattle.refutation_checker.proofs.assignment.look_at.Goals.{then-not-is_true+in-None, then-not-is_true+in-Some+else-not-is_same, else-not-is_true}
 
-pub is_true-requires-clause-within : goal.is_true-requires-clause-within
-is_true-requires-clause-within c = rw c.opposite.ensures (c.requires.within c.lit-item.result
-    (has-item c.args.clause.now c.loop-lit.lit-index c.lit-item.result c.loop-lit-test.true c.lit-item.is))
+pub is_true-requires : goal.is_true-requires
+is_true-requires g c =
+    let asked : g.A.Assignment.covers c.args.assignment.now c.opposite.result.variable = rw (ap (λ (y : Literal). y.variable) c.opposite.ensures)
+    (c.requires c.lit-item.result (has-item c.args.clause.now c.loop-lit.lit-index c.lit-item.result c.loop-lit-test.true c.lit-item.is)) in
+    asked
 
 pub loop-lit-preserved : goal.loop-lit-preserved
-loop-lit-preserved c =
-    let h = true_in c.args.line c.args.names.now c.args.slots.now in
+loop-lit-preserved g c =
+    let h = g.A.Assignment.true_in c.args.assignment.now in
     let i = c.loop-lit.lit-index in
     let xs = c.args.clause.now in
     let x = c.lit-item.result in
