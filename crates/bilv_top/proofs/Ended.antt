@@ -10,7 +10,7 @@ use Rattle.clause_spec.specs.Checks.{IsChecked}
 use Rattle.frame_spec.specs.FrameVerdict.{Whole}
 use Rattle.command_spec.specs.Commands.{Command, Verify, Lift, Graph, Script, Replay, Certify, Check, SelfRun, Upgrade, Model, Equal, Differ}
 use Rattle.answer_spec.specs.FrameAnswers.{AfterFrames, frames_refused, frames_found, IsVerifiedWhole, IsReplayedWhole, IsCertifiedWhole, IsScriptWhole}
-use Rattle.answer_spec.specs.Outcomes.{AfterBoth, AfterWhole, IsLifted, IsGraphed, upgrade_answer, IsDueAnswer, IsOutcome, whole, cut, no_memory}
+use Rattle.answer_spec.specs.Outcomes.{AfterBoth, AfterWhole, IsLifted, IsGraphedWhole, upgrade_answer, IsDueAnswer, IsOutcome, whole, cut, no_memory}
 use Rattle.answer_laws.specs.Completeness.{AreTold, IsSpentEvidence}
 use Rattle.answer_laws.specs.Told.{AreToldTo, IsAnswered}
 use Rattle.answer_laws.specs.Upgrading.{KeepsVerdict}
@@ -84,13 +84,13 @@ module _ (s : Surroundings) (before after : Option (List ℕ)) (sink_before sink
   due_met (Some (Verify o elf notes b)) a due =
       whole_met o elf notes (λ file. IsVerifiedWhole (layout_of o file) b) (λ file. IsVerifiedWhole (layout_of o file) b) a (λ file w is. is) due
   due_met (Some (Lift o elf)) a due = read_same elf (λ file. AfterImage file (IsLifted o file)) a due
-  due_met (Some (Graph o elf notes)) a due = whole_same o elf notes (λ file w. IsGraphed w.program) a due
-  due_met (Some (Script o elf notes q b)) a due = whole_same o elf notes (λ file. IsScriptWhole (layout_of o file) b q) a due
+  due_met (Some (Graph o elf notes)) a due = whole_same o elf notes (λ file. IsGraphedWhole) a due
+  due_met (Some (Script o elf notes q frame b)) a due = whole_same o elf notes (λ file. IsScriptWhole (layout_of o file) b frame q) a due
   due_met (Some (Replay o elf notes report)) a due =
       whole_met o elf notes (λ file w. AfterRead s report (λ text. IsReplayedWhole (layout_of o file) text w))
       (λ file w. AfterRead there report (λ text. IsReplayedWhole (layout_of o file) text w)) a
       (λ file w. read_same report (λ text. IsReplayedWhole (layout_of o file) text w) a) due
-  due_met (Some (Certify o elf notes q b)) a due = whole_same o elf notes (λ file. IsCertifiedWhole b q) a due
+  due_met (Some (Certify o elf notes q frame b)) a due = whole_same o elf notes (λ file. IsCertifiedWhole b frame q) a due
   due_met (Some (Check name)) a due = read_same name (λ text x. IsChecked text x.status x.text × (x.evidence ≡ NoEvidence)) a due
   due_met (Some (SelfRun seed count)) a due = due
   due_met (Some (Upgrade o elf notes)) a due =
@@ -138,9 +138,9 @@ module _ (s : Surroundings) (before after : Option (List ℕ)) (sink_before sink
   here_told content (Verify o elf notes b) told = told
   here_told content (Lift o elf) told = told
   here_told content (Graph o elf notes) told = told
-  here_told content (Script o elf notes q b) told = told
+  here_told content (Script o elf notes q frame b) told = told
   here_told content (Replay o elf notes report) told = told
-  here_told content (Certify o elf notes q b) told = told
+  here_told content (Certify o elf notes q frame b) told = told
   here_told content (Check name) told = told
   here_told content (SelfRun seed count) told = told
   here_told content (Upgrade o elf notes) told = told

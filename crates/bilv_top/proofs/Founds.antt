@@ -1,15 +1,25 @@
 -- What is known of a program that was found: its notes are over the registers and flags of the machine.
-use Rattle.std.proofs.Common.{◌≡◌, ℕ, List, Bool, true, false, refl, subst, ◌∙◌, ap}
-use Rattle.std.specs.Prelude.{if◌then◌else◌}
+use Rattle.std.proofs.Common.{◌≡◌, ◌≢◌, ◌≤◌, ℕ, suc, List, [], ◌∷◌, Some, Bool, true, false, refl, subst, ◌∙◌, ap}
+use Rattle.std.specs.Prelude.{All, if◌then◌else◌, map, slice_get}
+use Rattle.std.proofs.lemmas.List.Elements.{All-nil, All-cons, All-head, All-tail, All-weaker}
+use Rattle.frame_verdict.specs.FrameFunctions.{IsCallable}
+use Rattle.frame_spec.specs.Frames as frames
+use Rattle.frame_spec.specs.FrameVerdict.{Whole}
+use Rattle.notes_lang.specs.Framed.{IsContractOver}
 use Rattle.machine_spec.specs.Arm.{arm}
 use Rattle.bilv_spec.specs.Elf.{file_endian}
 use Rattle.call_spec.specs.Calls.{Options}
 use Rattle.bilv_spec.specs.Files.{is_rv, order_of}
-use Rattle.machine_spec.specs.Machine.{Machine}
+use Rattle.machine_spec.specs.Machine.{Machine, IsAtPlace}
 use Rattle.word_spec.specs.Memory.{Endian, Little}
 use Rattle.machine_spec.specs.RvMachine.{rv32}
 use Rattle.notes_value.specs.NoteViews.{notes_of}
-use Rattle.notes_value.specs.Reads.{AreOver, AreReadable}
+use Rattle.notes_value.specs.FrameViews.{contract_of}
+use Rattle.notes_value.specs.Reads.{AreOver, AreReadable, IsOver, IsReadableContract}
+use Rattle.notes_value.specs.declared.notes.Contract.{Contract}
+use Rattle.bilv_top.specs.Frames.{AreContractsOver, AreFitted, whole_by}
+use Rattle.bilv_top.specs.declared.framed.Framed.{Framed}
+use Rattle.bilv_top.proofs.Segments.{no_contract}
 use Rattle.bilv_top.specs.declared.inputs.Found.{Found}
 use Rattle.bilv_top.specs.Chosen.{IsMachineOf}
 use Rattle.bilv_top.specs.Due.{IsOverFile}
@@ -28,3 +38,63 @@ found_readable file f m (o, is) by = subst (λ (m : Machine). AreReadable m.has_
 
 pub found_over : (file : List ℕ) (f : Found) (m : Machine) → IsMachineOf file m → IsOverFile file f → AreOver m.has_register m.has_flag (notes_of f.notes)
 found_over file f m (o, is) by = subst (λ (m : Machine). AreOver m.has_register m.has_flag (notes_of f.notes)) is (by.over o)
+
+-- and what the contracts over it read and change
+module _ (file : List ℕ) (cs : List Contract) (m : Machine) (of : IsMachineOf file m) (by : AreContractsOver file cs) where
+  pub contracts_readable : All (λ x. IsReadableContract m.has_register (contract_of x)) cs
+  contracts_readable = subst (λ (n : Machine). All (λ x. IsReadableContract n.has_register (contract_of x)) cs) of.1 (by.readable of.0)
+
+  pub contracts_over : All (λ x. IsContractOver m.has_register m.has_flag (contract_of x)) cs
+  contracts_over = subst (λ (n : Machine). All (λ x. IsContractOver n.has_register n.has_flag (contract_of x)) cs) of.1 (by.over of.0)
+
+-- with invariants there are no contracts
+pub without_contracts : (w : Whole) → AreFitted w → w.invariants ≢ [] → w.contracts ≡ []
+without_contracts w fitted some = by w.contracts refl
+  where
+    by : (cs : List frames.Contract) → w.contracts ≡ cs → cs ≡ []
+    by [] is = refl
+    by (x ∷ rest) is = absurd (some (fitted 0 x (ap (λ (l : List frames.Contract). slice_get l 0) is)).no_invariants)
+
+-- and with contracts no invariants
+pub without_invariants : (w : Whole) → AreFitted w → w.contracts ≢ [] → w.invariants ≡ []
+without_invariants w fitted some = by w.contracts refl
+  where
+    by : (cs : List frames.Contract) → w.contracts ≡ cs → w.invariants ≡ []
+    by [] is = absurd (some is)
+    by (x ∷ rest) is = (fitted 0 x (ap (λ (l : List frames.Contract). slice_get l 0) is)).no_invariants
+
+-- with contracts there are no invariants, of what was found
+pub alone_with : (file : List ℕ) (m : Machine) (f : Framed) → AreFitted (whole_by m file f) → f.contracts.items ≢ [] → f.invariants.items ≡ []
+alone_with file m f fitted some = without_invariants (whole_by m file f) fitted (λ none. some (no_contract f.contracts.items none))
+
+callables : (m : Machine) (cs : List Contract) → All (λ x. IsContractOver m.has_register m.has_flag (contract_of x)) cs →
+    ((rank : ℕ) (x : frames.Contract) → slice_get (map contract_of cs) rank ≡ Some x → IsAtPlace m.narrow x.at) → All (λ x. IsCallable m (contract_of x)) cs
+callables m [] over places = All-nil (λ x. IsCallable m (contract_of x))
+callables m (c ∷ cs) over places =
+    let is = All-head (λ x. IsContractOver m.has_register m.has_flag (contract_of x)) c cs over in
+    All-cons (λ x. IsCallable m (contract_of x)) c cs
+    (record {
+      needs = is.needs;
+      gives = is.gives;
+      writes =
+          All-weaker (λ w. IsOver m.has_register m.has_flag w.says × (1 ≤ w.count) × (w.count ≤ 256))
+          (λ w. IsOver m.has_register m.has_flag w.says × (1 ≤ w.count)) (λ w h. (h.0, h.1)) (contract_of c).writes is.writes;
+      few = is.few;
+      registers = is.registers;
+      flags = is.flags;
+      place = places 0 (contract_of c) refl;
+    })
+    (callables m cs (All-tail (λ x. IsContractOver m.has_register m.has_flag (contract_of x)) c cs over) (λ rank x is. places (suc rank) x is))
+
+-- contracts that were found can be called
+pub callable_contracts : (file : List ℕ) (m : Machine) (f : Framed) → IsMachineOf file m → AreContractsOver file f.contracts.items →
+    AreFitted (whole_by m file f) → All (λ x. IsCallable m (contract_of x)) f.contracts.items
+callable_contracts file m f of by fitted =
+    callables m f.contracts.items (contracts_over file f.contracts.items m of by) (λ rank x is. (fitted rank x is).place)
+
+-- what holds of the whole that slices are holds of what was found
+pub whole_same : (P : Whole → Type 0) (m : Machine) (file : List ℕ) (f : Framed) (ns : List ℕ) (cs : List Contract) → ns ≡ f.invariants.items →
+    cs ≡ f.contracts.items → P (record { program = (whole_by m file f).program; invariants = ns; contracts = map contract_of cs }) → P (whole_by m file f)
+whole_same P m file f ns cs same also is =
+    subst (λ (l : List Contract). P (record { program = (whole_by m file f).program; invariants = f.invariants.items; contracts = map contract_of l })) also
+    (subst (λ (l : List ℕ). P (record { program = (whole_by m file f).program; invariants = l; contracts = map contract_of cs })) same is)

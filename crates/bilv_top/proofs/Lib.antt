@@ -1,3 +1,4 @@
+pub mod Ranked
 pub mod Checked
 pub mod Refused
 pub mod Done

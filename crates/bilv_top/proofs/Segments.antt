@@ -1,42 +1,47 @@
--- Functions whose notes may have invariants: what is found of them, and what is answered about them.
+-- Functions whose notes may have invariants or contracts: what is found of them, and what is answered about them.
 use Rattle.std.proofs.Common.{◌≡◌, ◌≢◌, ℕ, suc, ◌≤◌, ◌==◌, arith, refl, ap, sym, subst, ◌∙◌, false, true, List, [], ◌∷◌, Option, Some, None, inl, inr, length}
 use Rattle.std.proofs.lemmas.Bool.Decides.{nat_tests}
-use Rattle.std.specs.Prelude.{codes, ◌⊎◌, MatchOption}
+use Rattle.std.specs.Prelude.{All, Bool, codes, map, ◌⊎◌, MatchOption}
+use Rattle.std.specs.Option.{option_map}
 use Rattle.std.specs.List.Sorted.{IsStrictlyIncreasing}
-use Rattle.answer_spec.specs.FrameAnswers.{dialect_for, AfterFrames, frames_refused, frames_found, ByInvariants, ByQuestion, IsFrameReplayed, IsCertifiedWhole, IsReplayedWhole, IsScriptWhole, IsVerifiedWhole, too_long}
-use Rattle.answer_spec.specs.Outcomes.{AfterElf}
-use Rattle.answer_spec.proofs.Wholes.{entry_of_text, no_contracts_for, question_of, replayed_by_frames, without_invariants}
+use Rattle.answer_spec.specs.FrameAnswers.{dialect_for, AfterFrame, AfterFrames, asked_rank, frames_refused, frames_found, ByFrames, ByInvariants, ByQuestion, IsCertifiedWhole, IsReplayedWhole, IsScriptWhole, IsVerifiedWhole, judged, too_long}
+use Rattle.answer_spec.specs.FrameGraphs.{IsFrameGraphText}
+use Rattle.answer_spec.specs.Outcomes.{AfterElf, ByContracts, IsFrameGraphed, IsGraphed, IsGraphedWhole}
+use Rattle.answer_spec.proofs.Wholes.{entry_of_text, fitted_contract, question_of, replayed_by_frames, without_frames}
 use Rattle.bilv_spec.specs.Answers.{IsReported}
 use Rattle.bilv_spec.specs.Certified.{IsCertified}
-use Rattle.bilv_spec.specs.Files.{machine_of, program_of, IsFunctionAt}
-use Rattle.bilv_spec.specs.Notes.{Notes}
+use Rattle.bilv_spec.specs.Files.{machine_of, IsFunctionAt}
 use Rattle.bilv_spec.specs.Scripts.{IsScriptAnswer}
 use Rattle.call_spec.specs.Calls.{Options, Answer, Budget, Question, plain_answer, program_question, Surroundings, AfterRead, read_failed, was_read}
 use Rattle.call_spec.specs.Framed as framed
 use Rattle.command_line.specs.Commands.{budget_of, frame_question}
+use Rattle.frame_spec.specs.Frames as frames
 use Rattle.frame_spec.specs.FrameCertified.{IsFrameCertified}
-use Rattle.frame_spec.specs.FrameReports.{last_rank}
 use Rattle.frame_spec.specs.FrameScripts.{IsFrameScriptAnswer}
 use Rattle.call_spec.specs.Outside.{Held, Agrees}
 use Rattle.clause_spec.specs.Checks.{text_limit}
 use Rattle.frame_spec.specs.FrameVerdict.{Whole}
 use Rattle.machine_spec.specs.Machine.{Machine}
 use Rattle.machine_spec.specs.StateText.{Layout}
-use Rattle.notes_spec.specs.FrameNotes.{FrameNotes, IsFrameText}
+use Rattle.frame_texts_spec.specs.CallReplays.{call_replay_answer}
+use Rattle.frame_texts_spec.specs.FrameReplays.{TellsReturns}
+use Rattle.notes_spec.specs.FrameNotes.{IsFrameText}
 use Rattle.notes_spec.specs.Programs.{vocabulary_of}
-use Rattle.notes_spec.specs.Scopes.{Vocabulary, in_dialect}
+use Rattle.notes_spec.specs.Scopes.{in_dialect}
 use Rattle.notes_spec.specs.Verified.{AfterImage, elf_refused, elf_accepted, IsAccepted, notes_large, notes_limit}
 use Rattle.notes_lang.specs.Named.{dialect_of}
 use Rattle.notes_lang.specs.Parsing.{layout_flags, layout_registers, layout_vocabulary}
 use Rattle.notes_lang.specs.declared.notes.Dialect as dialects
 use Rattle.notes_value.specs.NoteViews.{notes_of}
-use Rattle.notes_value.specs.Reads.{AreOver, AreReadable}
+use Rattle.notes_lang.specs.Framed.{IsContractOver}
+use Rattle.notes_value.specs.FrameViews.{contract_of}
+use Rattle.notes_value.specs.Reads.{AreOver, AreReadable, IsReadableContract}
+use Rattle.notes_value.specs.declared.notes.Contract.{Contract}
 use Rattle.start_value.specs.declared.layout.Layout as forms
-use Rattle.table_run.specs.FrameEnds.{whole_of}
 use Rattle.word_spec.specs.Texts.{line}
 use Rattle.bilv_top.specs.Answers.{IfStep}
 use Rattle.bilv_top.specs.Due.{AreNotesAnsweredIn, IsFramesAnswer, IsOverFile, IsUnread, failed, longer, unread, refused}
-use Rattle.bilv_top.specs.Frames.{framed_of, IsFramedBy, IsFramedDone, IsOfFrames, IsOfProgram, IsSegmented}
+use Rattle.bilv_top.specs.Frames.{framed_of, frame_named, whole_by, AreContractsOver, IsFramedBy, IsFramedDone, IsOfFrames, IsOfProgram, IsSegmented}
 use Rattle.bilv_top.specs.declared.answer.Step.{Step}
 use Rattle.bilv_top.specs.declared.answer.Step.TheVariants.{Answered, Go}
 use Rattle.bilv_top.specs.declared.frame_tasks.FrameTask.{FrameTask}
@@ -58,11 +63,17 @@ over_file file layout f registers flags readable over = record {
       (subst (λ g. AreOver (layout_registers layout) g (notes_of f.found.notes)) (flags o) over);
 }
 
--- notes that are read have no contracts
-pub uncontracted : (v : Vocabulary) (text : List ℕ) (n : FrameNotes) → IsFrameText (in_dialect (dialect_for text) v) text n →
-    IsFrameText (in_dialect (dialect_for text) v) text (record { notes = n.notes; invariants = n.invariants; contracts = [] })
-uncontracted v text n read =
-    record { is_notes = read.is_notes; invariants_are = read.invariants_are; contracts_are = read.contracts_are ∙ no_contracts_for v text n read }
+-- and contracts
+contracts_file : (file : List ℕ) (layout : forms.Layout) (cs : List Contract) →
+    ((o : Options) → layout_registers layout ≡ (machine_of o file).has_register) → ((o : Options) → layout_flags layout ≡ (machine_of o file).has_flag) →
+    All (λ x. IsReadableContract (layout_registers layout) (contract_of x)) cs →
+    All (λ x. IsContractOver (layout_registers layout) (layout_flags layout) (contract_of x)) cs → AreContractsOver file cs
+contracts_file file layout cs registers flags readable over = record {
+  readable = λ o. subst (λ r. All (λ x. IsReadableContract r (contract_of x)) cs) (registers o) readable;
+  over = λ o.
+      subst (λ r. All (λ x. IsContractOver r (machine_of o file).has_flag (contract_of x)) cs) (registers o)
+      (subst (λ g. All (λ x. IsContractOver (layout_registers layout) g (contract_of x)) cs) (flags o) over);
+}
 
 pub framed_found : (o : Options) (file bytes : List ℕ) (layout : forms.Layout) (d : dialects.Dialect) (f : Framed) →
     layout_vocabulary layout d ≡ in_dialect (dialect_of d) (vocabulary_of o file) →
@@ -70,17 +81,21 @@ pub framed_found : (o : Options) (file bytes : List ℕ) (layout : forms.Layout)
     bytes ≡ f.found.text.items → IsFrameText (in_dialect (dialect_for bytes) (layout_vocabulary layout d)) bytes (framed_of f) →
     IsFunctionAt (machine_of o file).narrow file (notes_of f.found.notes).entry f.found.entry → IsStrictlyIncreasing f.invariants.items →
     AreReadable (layout_registers layout) (notes_of f.found.notes) → AreOver (layout_registers layout) (layout_flags layout) (notes_of f.found.notes) →
-    IsFramedBy o file f
-framed_found o file bytes layout d f words registers flags same said at rises readable over =
-    let says : IsFrameText (in_dialect (dialect_for f.found.text.items) (vocabulary_of o file)) f.found.text.items (framed_of f) =
+    All (λ x. IsReadableContract (layout_registers layout) (contract_of x)) f.contracts.items →
+    All (λ x. IsContractOver (layout_registers layout) (layout_flags layout) (contract_of x)) f.contracts.items → IsFramedBy o file f
+framed_found o file bytes layout d f words registers flags same said at rises readable over contracts changes =
+    let v = in_dialect (dialect_for f.found.text.items) (vocabulary_of o file) in
+    let says : IsFrameText v f.found.text.items (framed_of f) =
     subst (λ t. IsFrameText (in_dialect (dialect_for t) (vocabulary_of o file)) t (framed_of f)) same
     (subst (λ v. IsFrameText (in_dialect (dialect_for bytes) v) bytes (framed_of f)) words said) in
     record {
       says = says;
       at = at;
-      place = entry_of_text (in_dialect (dialect_for f.found.text.items) (vocabulary_of o file)) file f.found.text.items (framed_of f) f.found.entry says at;
+      place = entry_of_text v file f.found.text.items (framed_of f) f.found.entry says at;
       rising = rises;
       over_file = over_file file layout f registers flags readable over;
+      contracts_over = contracts_file file layout f.contracts.items registers flags contracts changes;
+      fitted = fitted_contract (machine_of o file) file f.found.text.items v (framed_of f) f.found.entry refl says;
     }
 
 -- a step that found them in the text of notes, or answered
@@ -94,7 +109,7 @@ framed_step held before after o file text (Go f) agrees le is =
 
 -- what was found over a file by some options
 abbrev pub whole_found : Options → (file : List ℕ) → Framed → Whole
-whole_found o file f = whole_of (program_of (machine_of o file) file (notes_of f.found.notes) f.found.entry) f.invariants.items
+whole_found o file f = whole_by (machine_of o file) file f
 
 -- ---- the answer after both files
 
@@ -134,99 +149,119 @@ module _ (s : Surroundings) (o : Options) (elf notes file : List ℕ) (Next : (f
 
 -- ---- the answer to a task
 
--- of the machine that a file is of
-pub segmented_on : (s : Surroundings) (t : FrameTask) (m n : Machine) (l k : Layout) (file : List ℕ) (notes : Notes) (entry : ℕ) (invariants : List ℕ)
-    (a : Answer) → n ≡ m → k ≡ l → IsSegmented s t l (whole_of (program_of m file notes entry) invariants) a →
-    IsSegmented s t k (whole_of (program_of n file notes entry) invariants) a
-segmented_on s t m n l k file notes entry invariants a machine form done =
-    subst (λ (x : Machine). IsSegmented s t k (whole_of (program_of x file notes entry) invariants) a) (sym machine)
-    (subst (λ (x : Layout). IsSegmented s t x (whole_of (program_of m file notes entry) invariants) a) (sym form) done)
-
 -- of a file that is known by two names
-pub framed_done_of : (s : Surroundings) (t : FrameTask) (machine : List ℕ → Machine) (layout : List ℕ → Layout) (image file : List ℕ) (notes : Notes)
-    (entry : ℕ) (invariants : List ℕ) (a : Answer) → image ≡ file →
-    IsFramedDone s t (layout image) (whole_of (program_of (machine image) image notes entry) invariants) a →
-    IsFramedDone s t (layout file) (whole_of (program_of (machine file) file notes entry) invariants) a
-framed_done_of s t machine layout image file notes entry invariants a same done =
-    subst (λ x. IsFramedDone s t (layout x) (whole_of (program_of (machine x) x notes entry) invariants) a) same done
+pub framed_done_of : (s : Surroundings) (t : FrameTask) (machine : List ℕ → Machine) (layout : List ℕ → Layout) (image file : List ℕ) (f : Framed) (a : Answer) →
+    image ≡ file → IsFramedDone s t (layout image) (whole_by (machine image) image f) a → IsFramedDone s t (layout file) (whole_by (machine file) file f) a
+framed_done_of s t machine layout image file f a same done = subst (λ x. IsFramedDone s t (layout x) (whole_by (machine x) x f) a) same done
 
--- what comes next after a file that is read
-read_next : (s : Surroundings) (name : List ℕ) (Next Other : List ℕ → Answer → Type 0) (a : Answer) →
-    ((bytes : List ℕ) → Next bytes a → Other bytes a) → AfterRead s name Next a → AfterRead s name Other a
-read_next s name Next Other a step (read_failed rose is) = read_failed rose is
-read_next s name Next Other a step (was_read bytes agrees next) = was_read bytes agrees (step bytes next)
+-- ---- by whether there are invariants or contracts, and whether a question is one of a program
 
--- ---- by whether there are invariants, and whether a question is one of a program
+-- there are some of either
+abbrev pub HasSome : (invariants : List ℕ) → (contracts : List frames.Contract) → Type 0
+HasSome invariants contracts = invariants ≡ [] → contracts ≡ [] → ⊥
 
 -- what is due to a question of a frame
-framed_due : (invariants : List ℕ) (o : Option Question) (Plain : Question → Type 0) (Framed : Type 0) → (o ≡ None) ⊎ (invariants ≢ []) → Framed →
-    ByQuestion invariants o Plain Framed
-framed_due [] None Plain Framed h is = is
-framed_due [] (Some kind) Plain Framed (inl none) is = absurd (let no : ⊥ = cc in no)
-framed_due [] (Some kind) Plain Framed (inr some) is = absurd (some refl)
-framed_due (n ∷ rest) o Plain Framed h is = is
+framed_due : (invariants : List ℕ) (contracts : List frames.Contract) (o : Option Question) (Plain : Question → Type 0) (Framed : Type 0) →
+    (o ≡ None) ⊎ HasSome invariants contracts → Framed → ByQuestion invariants contracts o Plain Framed
+framed_due [] [] None Plain Framed h is = is
+framed_due [] [] (Some kind) Plain Framed (inl none) is = absurd (let no : ⊥ = cc in no)
+framed_due [] [] (Some kind) Plain Framed (inr some) is = absurd (some refl refl)
+framed_due [] (x ∷ rest) o Plain Framed h is = is
+framed_due (n ∷ rest) contracts o Plain Framed h is = is
 
-due_with : (invariants : List ℕ) (A B : Type 0) → invariants ≢ [] → B → ByInvariants invariants A B
-due_with [] A B some is = absurd (some refl)
-due_with (n ∷ rest) A B some is = is
+due_with : (invariants : List ℕ) (contracts : List frames.Contract) (A B : Type 0) → HasSome invariants contracts → B → ByFrames invariants contracts A B
+due_with [] [] A B some is = absurd (some refl refl)
+due_with [] (x ∷ rest) A B some is = is
+due_with (n ∷ rest) contracts A B some is = is
+
+-- what is due to the frame of a rank, which a word names
+named_due : (o : Option ℕ) (rank : ℕ) (Next : ℕ → Type 0) (a : Answer) → o ≡ Some rank → Next rank → AfterFrame o Next a
+named_due o rank Next a is next = subst (λ (x : Option ℕ). AfterFrame x Next a) (sym is) next
 
 -- what is answered as of a program, where there are none
-module _ (layout : Layout) (b : Budget) (w : Whole) (a : Answer) (none : w.invariants ≡ []) where
+module _ (layout : Layout) (b : Budget) (w : Whole) (a : Answer) (none : w.invariants ≡ []) (free : w.contracts ≡ []) where
   pub reported_plain : IsReported w.program layout b a → IsVerifiedWhole layout b w a
-  reported_plain done = (without_invariants w.invariants _ _ none).1 done
+  reported_plain done = (without_frames w.invariants w.contracts _ _ none free).1 done
 
-  module _ (question : framed.Question) (kind : Question) (is : Some kind ≡ program_question question) where
-    pub certified_plain : IsCertified w.program b kind a.status a.text a.evidence → IsCertifiedWhole b question w a
+  module _ (frame : Option (List ℕ)) (rank : ℕ) (asked : asked_rank w frame ≡ Some rank) (question : framed.Question) (kind : Question)
+      (is : Some kind ≡ program_question question) where
+    pub certified_plain : IsCertified w.program b kind a.status a.text a.evidence → IsCertifiedWhole b frame question w a
     certified_plain done =
-        (question_of w.invariants (program_question question) kind (λ q. IsCertified w.program b q a.status a.text a.evidence)
-        (IsFrameCertified w (last_rank w) b question a.status a.text a.evidence) none (sym is)).1 done
+        named_due (asked_rank w frame) rank _ a asked
+        ((question_of w.invariants w.contracts (program_question question) kind (λ q. IsCertified w.program b q a.status a.text a.evidence)
+        (IsFrameCertified w rank b question a.status a.text a.evidence) none free (sym is)).1 done)
 
-    pub scripted_plain : IsScriptAnswer w.program layout b kind a → IsScriptWhole layout b question w a
+    pub scripted_plain : IsScriptAnswer w.program layout b kind a → IsScriptWhole layout b frame question w a
     scripted_plain done =
-        (question_of w.invariants (program_question question) kind (λ q. IsScriptAnswer w.program layout b q a)
-        (IsFrameScriptAnswer w (last_rank w) layout b question a) none (sym is)).1 done
+        named_due (asked_rank w frame) rank _ a asked
+        ((question_of w.invariants w.contracts (program_question question) kind (λ q. IsScriptAnswer w.program layout b q a)
+        (IsFrameScriptAnswer w rank layout b question a) none free (sym is)).1 done)
 
 -- what is asked of frames is so answered: a question about head states, the graph, the replay of a report
-module _ (s : Surroundings) (layout : Layout) (w : Whole) (a : Answer) where
-  pub certified_framed : (b : Budget) (question : framed.Question) → (program_question question ≡ None) ⊎ (w.invariants ≢ []) →
-      IsFrameCertified w (last_rank w) b question a.status a.text a.evidence → IsCertifiedWhole b question w a
-  certified_framed b question other done =
-      framed_due w.invariants (program_question question) (λ kind. IsCertified w.program b kind a.status a.text a.evidence) _ other done
+module _ (s : Surroundings) (layout : Layout) (w : Whole) (rank : ℕ) (a : Answer) where
+  pub certified_framed : (b : Budget) (frame : Option (List ℕ)) (question : framed.Question) → asked_rank w frame ≡ Some rank →
+      (program_question question ≡ None) ⊎ HasSome w.invariants w.contracts → IsFrameCertified w rank b question a.status a.text a.evidence →
+      IsCertifiedWhole b frame question w a
+  certified_framed b frame question asked other done =
+      named_due (asked_rank w frame) rank _ a asked
+      (framed_due w.invariants w.contracts (program_question question) (λ kind. IsCertified w.program b kind a.status a.text a.evidence) _ other done)
 
-  pub scripted_framed : (b : Budget) (question : framed.Question) → (program_question question ≡ None) ⊎ (w.invariants ≢ []) →
-      IsFrameScriptAnswer w (last_rank w) layout b question a → IsScriptWhole layout b question w a
-  scripted_framed b question other done =
-      framed_due w.invariants (program_question question) (λ kind. IsScriptAnswer w.program layout b kind a) _ other done
+  pub scripted_framed : (b : Budget) (frame : Option (List ℕ)) (question : framed.Question) → asked_rank w frame ≡ Some rank →
+      (program_question question ≡ None) ⊎ HasSome w.invariants w.contracts → IsFrameScriptAnswer w rank layout b question a →
+      IsScriptWhole layout b frame question w a
+  scripted_framed b frame question asked other done =
+      named_due (asked_rank w frame) rank _ a asked
+      (framed_due w.invariants w.contracts (program_question question) (λ kind. IsScriptAnswer w.program layout b kind a) _ other done)
 
-  pub replayed_framed : (name : List ℕ) → AfterRead s name (IsFrameReplayed w layout) a → AfterRead s name (λ report. IsReplayedWhole layout report w) a
-  replayed_framed name done = read_next s name _ _ a (λ report next. replayed_by_frames w layout report a next) done
+  segmented_done : (t : FrameTask) → HasSome w.invariants w.contracts → asked_rank w (frame_named t) ≡ Some rank → IsSegmented s t rank layout w a →
+      IsFramedDone s t layout w a
+  segmented_done (Report budget) some asked done = due_with w.invariants w.contracts _ _ some done
+  segmented_done Graph some asked done = done
+  segmented_done (Script question budget frame) some asked done =
+      scripted_framed (budget_of budget) (option_map (λ x. x.now) frame) (frame_question question) asked (inr some) done
+  segmented_done (Certificate question budget frame) some asked done =
+      certified_framed (budget_of budget) (option_map (λ x. x.now) frame) (frame_question question) asked (inr some) done
+  segmented_done (Replay name) some asked done = done
 
-  segmented_done : (t : FrameTask) → w.invariants ≢ [] → IsSegmented s t layout w a → IsFramedDone s t layout w a
-  segmented_done (Report budget) some done = due_with w.invariants _ _ some done
-  segmented_done Graph some done = done
-  segmented_done (Script question budget) some done = scripted_framed (budget_of budget) (frame_question question) (inr some) done
-  segmented_done (Certificate question budget) some done = certified_framed (budget_of budget) (frame_question question) (inr some) done
-  segmented_done (Replay name) some done = replayed_framed name.now done
+-- what is due where no frame has the name
+unnamed_due : (o : Option ℕ) (Next : ℕ → Type 0) (a : Answer) → o ≡ None → a ≡ plain_answer 5 (line (codes "notes: NoFrame")) → AfterFrame o Next a
+unnamed_due o Next a none is = subst (λ (x : Option ℕ). AfterFrame x Next a) (sym none) is
+
+-- the answer where no frame has the name that is asked about
+pub no_frame : (s : Surroundings) (t : FrameTask) (layout : Layout) (w : Whole) (a : Answer) → asked_rank w (frame_named t) ≡ None →
+    a ≡ plain_answer 5 (line (codes "notes: NoFrame")) → IsFramedDone s t layout w a
+no_frame s (Report budget) layout w a none is = absurd (let no : ⊥ = cc in no)
+no_frame s Graph layout w a none is = absurd (let no : ⊥ = cc in no)
+no_frame s (Script question budget frame) layout w a none is = unnamed_due (asked_rank w (option_map (λ x. x.now) frame)) _ a none is
+no_frame s (Certificate question budget frame) layout w a none is = unnamed_due (asked_rank w (option_map (λ x. x.now) frame)) _ a none is
+no_frame s (Replay name) layout w a none is = absurd (let no : ⊥ = cc in no)
 
 -- a list of no elements
-none_of : (ns : List ℕ) (n : ℕ) → n ≡ length ns → (n == 0) ≡ true → ns ≡ []
+pub none_of : {T : Type 0} (xs : List T) (n : ℕ) → n ≡ length xs → (n == 0) ≡ true → xs ≡ []
 none_of [] n count is = refl
-none_of (x ∷ ns) n count is =
-    let e : n ≡ 0 = grind (arith, nat_tests) in let c : n ≡ suc (length ns) = count in absurd (omega (arith, e, c))
+none_of (x ∷ xs) n count is =
+    let e : n ≡ 0 = grind (arith, nat_tests) in let c : n ≡ suc (length xs) = count in absurd (omega (arith, e, c))
 
 -- with some
-some_of : (ns : List ℕ) (n : ℕ) → n ≡ length ns → (n == 0) ≡ false → ns ≢ []
-some_of ns n count is none = let e : n ≢ 0 = grind (arith, nat_tests) in e (count ∙ ap (λ (x : List ℕ). length x) none)
+pub some_of : {T : Type 0} (xs : List T) (n : ℕ) → n ≡ length xs → (n == 0) ≡ false → xs ≢ []
+some_of xs n count is none = let e : n ≢ 0 = grind (arith, nat_tests) in e (count ∙ ap length none)
 
--- a task of a program is one where there are no invariants, and one over frames where there are
-pub is_program_task : (t : FrameTask) (ns : List ℕ) (n : ℕ) (r : Option Task) → n ≡ length ns → (n == 0) ≡ true →
-    MatchOption r ((invariants : List ℕ) → IsOfFrames t invariants) (IsOfProgram t []) → MatchOption r (IsOfFrames t ns) (IsOfProgram t ns)
-is_program_task t ns n (Some plain) count is same = subst (λ i. IsOfProgram t i plain) (sym (none_of ns n count is)) same
-is_program_task t ns n None count is same = same ns
+-- contracts as they are seen are none where there are none
+pub no_contract : (cs : List Contract) → map contract_of cs ≡ [] → cs ≡ []
+no_contract [] none = refl
+no_contract (x ∷ rest) none = absurd (let no : ⊥ = cc in no)
 
-pub is_frame_task : (t : FrameTask) (ns : List ℕ) (n : ℕ) → n ≡ length ns → (n == 0) ≡ false → IsOfFrames t ns
-is_frame_task t ns n count is s layout w a same done =
-    segmented_done s layout w a t (λ none. some_of ns n count is (sym same ∙ none)) done
+-- a task of a program is one where there are none of either, and one over frames where there are some
+pub is_program_task : (t : FrameTask) (ns : List ℕ) (cs : List Contract) (r : Option Task) → ns ≡ [] → cs ≡ [] →
+    MatchOption r ((invariants : List ℕ) (contracts : List frames.Contract) → IsOfFrames t invariants contracts) (IsOfProgram t [] []) →
+    MatchOption r (IsOfFrames t ns (map contract_of cs)) (IsOfProgram t ns (map contract_of cs))
+is_program_task t ns cs (Some plain) none free same =
+    subst (λ i. IsOfProgram t i (map contract_of cs) plain) (sym none) (subst (λ c. IsOfProgram t [] c plain) (sym (ap (map contract_of) free)) same)
+is_program_task t ns cs None none free same = same ns (map contract_of cs)
+
+pub is_frame_task : (t : FrameTask) (ns : List ℕ) (cs : List Contract) → (ns ≡ [] → cs ≡ [] → ⊥) → IsOfFrames t ns (map contract_of cs)
+is_frame_task t ns cs some s layout w rank a same also asked done =
+    segmented_done s layout w rank a t (λ none free. some (sym same ∙ none) (no_contract cs (sym also ∙ free))) asked done
 
 -- since before other files were read
 pub framed_since : (s t : Surroundings) (asked : FrameTask) (layout : Layout) (w : Whole) (a : Answer) → ((n : List ℕ) → s.held n ≡ t.held n) →
@@ -234,14 +269,49 @@ pub framed_since : (s t : Surroundings) (asked : FrameTask) (layout : Layout) (w
     IsFramedDone t asked layout w a
 framed_since s t (Report budget) layout w a held before after done = done
 framed_since s t Graph layout w a held before after done = done
-framed_since s t (Script question budget) layout w a held before after done = done
-framed_since s t (Certificate question budget) layout w a held before after done = done
+framed_since s t (Script question budget frame) layout w a held before after done = done
+framed_since s t (Certificate question budget frame) layout w a held before after done = done
 framed_since s t (Replay name) layout w a held before after done =
     read_since s t name.now _ a (held name.now) (before name.now) (after name.now) done
 
 -- a report over frames that was not read
 pub segment_unread : (s : Surroundings) (name : List ℕ) (w : Whole) (layout : Layout) (a : Answer) →
     IsUnread (s.held name) (s.shelf_before name) (s.shelf_after name) text_limit (plain_answer 9 (line (codes "state: TooLarge"))) a →
-    AfterRead s name (IsFrameReplayed w layout) a
+    AfterRead s name (λ report. IsReplayedWhole layout report w) a
 segment_unread s name w layout a (failed rose is) = read_failed rose is
-segment_unread s name w layout a (longer long is) = was_read long.0 long.1 (too_long long.2 is)
+segment_unread s name w layout a (longer long is) = was_read long.0 long.1 (replayed_by_frames w layout long.0 a (too_long long.2 is))
+
+-- ---- the replay of a report
+
+-- what is due without invariants, and with some
+pub due_without : (invariants : List ℕ) (A B : Type 0) → invariants ≡ [] → A → ByInvariants invariants A B
+due_without invariants A B none is = subst (λ (i : List ℕ). ByInvariants i A B) (sym none) is
+
+pub due_heads : (invariants : List ℕ) (A B : Type 0) → invariants ≢ [] → B → ByInvariants invariants A B
+due_heads [] A B some is = absurd (some refl)
+due_heads (n ∷ rest) A B some is = is
+
+-- of a whole without contracts, by what it is
+pub replayed_heads : (w : Whole) (layout : Layout) (report : List ℕ) (a : Answer) (returns : ℕ → Bool) → w.invariants ≢ [] → w.contracts ≡ [] →
+    TellsReturns w.program returns → a ≡ call_replay_answer (record w { contracts = [] }) returns layout report → IsReplayedWhole layout report w a
+replayed_heads w layout report a returns some free tells is =
+    due_heads w.invariants _ _ some
+    (judged returns tells (subst (λ (cs : List frames.Contract). a ≡ call_replay_answer (record w { contracts = cs }) returns layout report) (sym free) is))
+
+pub replayed_plain : (w : Whole) (layout : Layout) (report : List ℕ) (a : Answer) → w.invariants ≡ [] →
+    a ≡ call_replay_answer (record w { invariants = [] }) (λ x. false) layout report → IsReplayedWhole layout report w a
+replayed_plain w layout report a none is =
+    due_without w.invariants _ _ none
+    (subst (λ (ns : List ℕ). a ≡ call_replay_answer (record w { invariants = ns }) (λ x. false) layout report) (sym none) is)
+
+-- ---- graphs
+
+pub graphed_plain : (w : Whole) (a : Answer) → w.contracts ≡ [] → IsGraphed w.program a → IsGraphedWhole w a
+graphed_plain w a free is = subst (λ (cs : List frames.Contract). ByContracts cs (IsGraphed w.program a) (IsFrameGraphed w a)) (sym free) is
+
+pub graphed_framed : (w : Whole) (text : List ℕ) → w.contracts ≢ [] → IsFrameGraphText w text → IsGraphedWhole w (plain_answer 0 text)
+graphed_framed w text some is = by w.contracts some
+  where
+    by : (cs : List frames.Contract) → cs ≢ [] → ByContracts cs (IsGraphed w.program (plain_answer 0 text)) (IsFrameGraphed w (plain_answer 0 text))
+    by [] some = absurd (some refl)
+    by (x ∷ rest) some = (text, is, refl)

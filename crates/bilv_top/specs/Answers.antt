@@ -1,5 +1,5 @@
 -- Answers, as the definitions have them, and what is met on the way to one.
-use Rattle.std.specs.Prelude.{ℕ, List, [], codes}
+use Rattle.std.specs.Prelude.{ℕ, List, [], codes, map}
 use Rattle.call_spec.specs.Calls as spec
 use Rattle.notes_spec.specs.Verified.{elf_fault_text}
 use Rattle.bilv_spec.specs.Answers.{budget_text}
@@ -10,14 +10,15 @@ use Rattle.pair_verdict.specs.Verdicts.{holding_of}
 use Rattle.question_form.specs.Views.{kind_of}
 use Rattle.call_form.specs.Views.{frame_question}
 use Rattle.start_value.specs.Starts.{written_of}
-use Rattle.state_text.specs.Starts.{written_head_of}
+use Rattle.state_text.specs.Starts.{written_call_of, written_head_of}
+use Rattle.frame_verdict.specs.FrameVerdicts.{passed_of}
 use Rattle.verdict.specs.declared.verdicts.Exceeded.{Exceeded}
 use Rattle.verdict.specs.declared.verdicts.Exceeded.TheVariants.{Points, Size}
 use Rattle.elf32_reader.specs.declared.fault.ElfFault.{ElfFault}
 use Rattle.elf32_reader.specs.declared.fault.ElfFault.TheVariants.{Short, Magic, Class, Data, Version, «Type», Machine, HeaderTable, SegmentRange, FileSize, Overlap, SymbolTable, Memory}
 use Rattle.bilv_top.specs.declared.answer.Answer.{Answer}
 use Rattle.bilv_top.specs.declared.answer.Evidence.{Evidence}
-use Rattle.bilv_top.specs.declared.answer.Evidence.TheVariants.{None as Nothing, Refutations, EntryRefuted, RunOf, SpentOn, Inductive, FromHead, SpentOnFrame, Count, Two, Both, SpentOnPair}
+use Rattle.bilv_top.specs.declared.answer.Evidence.TheVariants.{None as Nothing, Refutations, EntryRefuted, RunOf, SpentOn, Inductive, FromHead, Frames, WithCalls, SpentOnFrame, Count, Two, Both, SpentOnPair}
 use Rattle.bilv_top.specs.declared.answer.Step.{Step}
 use Rattle.bilv_top.specs.declared.answer.Step.TheVariants.{Answered, Go}
 
@@ -30,6 +31,8 @@ evidence_of (RunOf start) = spec.RunOf (written_of start)
 evidence_of (SpentOn question proof) = spec.SpentOn (kind_of question) (proof_of proof)
 evidence_of (Inductive start fail step turn) = spec.Inductive (written_of start) (proof_of fail) (proof_of step) (proof_of turn)
 evidence_of (FromHead start head) = spec.FromHead (written_of start) (written_head_of head)
+evidence_of (Frames passed) = spec.Frames (map passed_of passed.items)
+evidence_of (WithCalls rank start calls) = spec.WithCalls rank (written_of start) (map written_call_of calls.items)
 evidence_of (SpentOnFrame rank question proof) = spec.SpentOnFrame rank (frame_question question) (proof_of proof)
 evidence_of (Count n) = spec.Count n
 evidence_of (Two first second) = spec.Two (written_of first) (written_of second)

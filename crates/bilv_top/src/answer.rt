@@ -1,10 +1,11 @@
 //! Answers, and steps on the way to one.
 use cnf_form::Proof;
+use frame_verdict::Passed;
 use pair_form::PairKind;
 use pair_verdict::Holding;
 use question_form::{Asked, Kind};
 use start_value::Start;
-use state_text::HeadStart;
+use state_text::{CallState, HeadStart};
 
 /// What shows that an answer is right.
 #[derive(Drop)]
@@ -38,9 +39,17 @@ pub enum Evidence {
         start: Start,
         head: HeadStart,
     },
+    /// For each frame, in the order of ranks, what shows that it passes: those of the contracts, and last the function's own.
+    Frames(Vec<Passed>),
+    /// The start of the frame of a rank, and what is given to the contract steps of its run, which ends as the answer says.
+    WithCalls {
+        rank: usize,
+        start: Start,
+        calls: Vec<CallState>,
+    },
     /// A question of the frame of a rank, and the search that spent the conflicts on it. Without contracts the entry's frame is the one frame, of rank 0.
     SpentOnFrame {
-        rank: u32,
+        rank: usize,
         question: Asked,
         proof: Proof,
     },

@@ -65,6 +65,7 @@ fn obey<H: Shelf>(alloc: Global, command: Command, shelf: &mut H) -> Result<Answ
             notes,
             options,
             question,
+            frame,
             budget,
         } => answer_framed(
             alloc,
@@ -72,7 +73,7 @@ fn obey<H: Shelf>(alloc: Global, command: Command, shelf: &mut H) -> Result<Answ
             elf,
             notes,
             options,
-            FrameTask::Script(question, budget),
+            FrameTask::Script(question, budget, frame),
         ),
         Command::Replay {
             elf,
@@ -85,6 +86,7 @@ fn obey<H: Shelf>(alloc: Global, command: Command, shelf: &mut H) -> Result<Answ
             notes,
             options,
             question,
+            frame,
             budget,
         } => answer_framed(
             alloc,
@@ -92,7 +94,7 @@ fn obey<H: Shelf>(alloc: Global, command: Command, shelf: &mut H) -> Result<Answ
             elf,
             notes,
             options,
-            FrameTask::Certificate(question, budget),
+            FrameTask::Certificate(question, budget, frame),
         ),
         Command::Model {
             elf,

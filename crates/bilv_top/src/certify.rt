@@ -1,5 +1,6 @@
 //! The answer that certifies a question.
-ghost use Rattle.std.specs.Prelude.{◌≡◌, ℕ, List, IfOk};
+ghost use Rattle.std.specs.Prelude.{◌≡◌, ◌≤◌, IfOk, length};
+ghost use Rattle.std.specs.List.Sorted.{IsStrictlyIncreasing};
 ghost use Rattle.call_spec.specs.Calls.{plain_answer};
 ghost use Rattle.clause_spec.specs.Certificates.{certificate_text};
 ghost use Rattle.bilv_spec.specs.Certified.{IsCertified};
@@ -8,13 +9,14 @@ ghost use Rattle.bilv_spec.specs.Run.{Program};
 ghost use Rattle.bilv_top.specs.Answers.{answer_of};
 ghost use Rattle.bilv_top.specs.Chosen.{IsMachineOf};
 ghost use Rattle.bilv_top.specs.Due.{IsOverFile};
+ghost use Rattle.bilv_top.specs.Frames.{AreContractsOver, AreFitted, whole_by};
 ghost use Rattle.cnf_form.specs.Views.{cnf_of, lines_of};
 ghost use Rattle.call_form.specs.Views.{frame_question, kind_of};
 ghost use Rattle.command_line.specs.Commands.{budget_of};
 ghost use Rattle.frame_spec.specs.FrameCertified.{IsFrameCertified};
+ghost use Rattle.frame_spec.specs.FrameVerdict.{Whole};
 ghost use Rattle.frame_verdict.specs.FrameCertificates.{IsFrameCertificate};
 ghost use Rattle.machine_spec.specs.Machine.{IsAtPlace};
-ghost use Rattle.table_run.specs.FrameEnds.{whole_of};
 ghost use Rattle.notes_value.specs.NoteViews.{notes_of};
 ghost use Rattle.verdict.specs.Verdicts.{IsCertificate};
 
@@ -99,22 +101,22 @@ pub fn certify_by<M: Machine>(
     say(alloc, budget, question, certified)
 }
 
-/// The answer to what a question of the entry's frame comes to within budgets. The error is want of memory.
+/// The answer to what a question of the frame of a rank comes to within budgets. The error is want of memory.
 fn say_frame(
     alloc: Global,
     budget: Budget,
+    rank: usize,
     question: Asked,
     certified: Certified,
 ) -> Result<Answer, AllocError>
-    ensures { IfOk result (λ a. (p : Program) (invariants : List ℕ) →
-        IsFrameCertificate (whole_of p invariants) (budget_of budget) (frame_question question) certified →
-        IsFrameCertified (whole_of p invariants) 0 (budget_of budget) (frame_question question) (answer_of a).status (answer_of a).text (answer_of a).evidence) }
+    ensures { IfOk result (λ a. (w : Whole) → IsFrameCertificate w rank (budget_of budget) (frame_question question) certified →
+        IsFrameCertified w rank (budget_of budget) (frame_question question) (answer_of a).status (answer_of a).text (answer_of a).evidence) }
 {
     match certified {
         Certified::Exceeded(past) => beyond(alloc, budget, past),
         Certified::Conflicts(proof) => {
             let spent = Evidence::SpentOnFrame {
-                rank: 0,
+                rank,
                 question,
                 proof,
             };
@@ -125,30 +127,38 @@ fn say_frame(
     }
 }
 
-/// The answer to a question about a function of a machine whose notes may have invariants. The error is want of memory.
+/// The answer to a question about the frame of a rank of a function of a machine whose notes may have invariants or contracts. The error is want of memory.
 pub fn certify_frames_by<M: Machine>(
     alloc: Global,
     image: &Image,
     framed: &Framed,
     budget: Budget,
     question: Asked,
+    rank: usize,
 ) -> Result<Answer, AllocError>
     requires machine { IsMachineOf image.now M.machine }
     requires found { IsOverFile image.now framed.now.found }
     requires place { IsAtPlace M.machine.narrow framed.now.found.entry }
-    ensures { IfOk result (λ a. IsFrameCertified
-        (whole_of (program_of M.machine image.now (notes_of framed.now.found.notes) framed.now.found.entry) framed.now.invariants.items) 0 (budget_of budget)
-        (frame_question question) (answer_of a).status (answer_of a).text (answer_of a).evidence) }
+    requires rising { IsStrictlyIncreasing framed.now.invariants.items }
+    requires contracts { AreContractsOver image.now framed.now.contracts.items }
+    requires fitted { AreFitted (whole_by M.machine image.now framed.now) }
+    requires rank { rank ≤ length framed.now.contracts.items }
+    ensures { IfOk result (λ a. IsFrameCertified (whole_by M.machine image.now framed.now) rank (budget_of budget) (frame_question question)
+        (answer_of a).status (answer_of a).text (answer_of a).evidence) }
 {
     let found = &framed.found;
+    let invariants = framed.invariants.as_slice();
+    let contracts = framed.contracts.as_slice();
     let certified = certify_frame::<M>(
         alloc,
         image,
         &found.notes,
-        &framed.invariants,
+        invariants,
+        contracts,
         found.entry,
+        rank,
         &budget,
         question,
     )?;
-    say_frame(alloc, budget, question, certified)
+    say_frame(alloc, budget, rank, question, certified)
 }

@@ -1,26 +1,29 @@
-//! What is asked about a function whose notes may have invariants, and its answer on the machine of the file.
-ghost use Rattle.std.specs.Prelude.{◌≡◌, ◌≤◌, ℕ, List, [], ◌∷◌, IfOk, IfSome, MatchOption};
-ghost use Rattle.bilv_spec.specs.Files.{layout_of, machine_of, program_of};
+//! What is asked about a function whose notes may have invariants or contracts, and its answer on the machine of the file.
+ghost use Rattle.std.specs.Prelude.{◌≡◌, ◌≤◌, ℕ, List, [], ◌∷◌, Some, IfOk, IfSome, MatchOption, length, map};
+ghost use Rattle.bilv_spec.specs.Files.{layout_of, machine_of};
+ghost use Rattle.answer_spec.specs.FrameAnswers.{asked_rank};
+ghost use Rattle.frame_spec.specs.Frames as frames;
 ghost use Rattle.machine_spec.specs.Machine.{IsAtPlace};
 ghost use Rattle.std.specs.List.Sorted.{IsStrictlyIncreasing};
 ghost use Rattle.answer_spec.specs.Outcomes.{AfterWhole};
 ghost use Rattle.command_line.specs.Commands.{options_of};
-ghost use Rattle.notes_value.specs.NoteViews.{notes_of};
-ghost use Rattle.table_run.specs.FrameEnds.{whole_of};
+ghost use Rattle.notes_value.specs.FrameViews.{contract_of};
 ghost use Rattle.io_edges.specs.Met.{seen};
 ghost use Rattle.io_edges.specs.Begun.{AreBegun};
 ghost use Rattle.bilv_top.specs.Answers.{answer_of};
 ghost use Rattle.bilv_top.specs.Chosen.{IsMachineOf};
 ghost use Rattle.bilv_top.specs.Due.{IsOverFile};
-ghost use Rattle.bilv_top.specs.Frames.{IsFramedDone, IsOfFrames, IsOfProgram, IsSegmented, names_of_frame_task};
+ghost use Rattle.bilv_top.specs.Frames.{AreContractsOver, AreFitted, IsFramedDone, IsOfFrames, IsOfProgram, IsSegmented, frame_named, names_of_frame_task, whole_by};
 ghost use Rattle.bilv_top.specs.Reads.{names_of_task};
 
 use crate::answer::{Answer, Step};
+use crate::asked::rank_asked;
 use crate::certify::certify_frames_by;
 use crate::framed::{Framed, read_framed};
-use crate::graph::graph_by;
+use crate::graph::graph_frames_by;
 use crate::inputs::read_elf;
 use crate::machines::{layout, on_machine};
+use crate::reading::answer;
 use crate::replay::replay_frames_by;
 use crate::script::script_frames_by;
 use crate::tasks::{Task, answer_on};
@@ -28,40 +31,42 @@ use crate::verify::report_frames_by;
 use arm_lift::Arm;
 use command_line::{Asked, Budget, Options};
 use elf32_reader::Image;
+use exit_status::NOTES_REFUSED;
 use io_edges::Shelf;
 use machine_law::Machine;
 use rv_lift::Rv32;
 use start_value::{Layout, Profile};
 use std::alloc::{AllocError, Global};
 
-/// What is asked about a function whose notes may have invariants.
+/// What is asked about a function whose notes may have invariants or contracts.
 #[derive(Clone, Copy)]
 pub enum FrameTask<'a> {
     /// The report of its verdict within budgets.
     Report(Budget),
     /// Its flow graph.
     Graph,
-    /// The script of a question, within budgets.
-    Script(Asked, Budget),
-    /// The certificate of a question, within budgets.
-    Certificate(Asked, Budget),
+    /// The script of a question of the frame that a word names, or of that of the entry, within budgets.
+    Script(Asked, Budget, Option<&'a str>),
+    /// The certificate of such a question, within budgets.
+    Certificate(Asked, Budget, Option<&'a str>),
     /// Whether the segment, or the run, from the start of the report of this name ends as the report says.
     Replay(&'a str),
 }
 
-/// The same as a task of a program, if it is one where there are no invariants. The graph and the replay of a report are those of frames in any case, and so is
-/// a question about head states.
+/// The same as a task of a program, if it is one where there are neither invariants nor contracts. The graph and the replay of a report are those of frames in
+/// any case, and so is a question about head states.
 fn as_program<'a>(task: FrameTask<'a>) -> Option<Task<'a>>
     ensures names { IfSome result (λ t. names_of_task t ≡ names_of_frame_task task.entry) }
-    ensures same { MatchOption result ((invariants : List ℕ) → IsOfFrames task.entry invariants) (IsOfProgram task.entry []) }
+    ensures same { MatchOption result ((invariants : List ℕ) (contracts : List frames.Contract) → IsOfFrames task.entry invariants contracts)
+        (IsOfProgram task.entry [] []) }
 {
     match task {
         FrameTask::Report(budget) => Some(Task::Report(budget)),
-        FrameTask::Script(question, budget) => {
+        FrameTask::Script(question, budget, _) => {
             let kind = question.program()?;
             Some(Task::Script(kind, budget))
         }
-        FrameTask::Certificate(question, budget) => {
+        FrameTask::Certificate(question, budget, _) => {
             let kind = question.program()?;
             Some(Task::Certificate(kind, budget))
         }
@@ -73,16 +78,19 @@ fn as_program<'a>(task: FrameTask<'a>) -> Option<Task<'a>>
 /// The task of a program that is answered to a task about a function with these notes, if it is one.
 fn plain_task<'a>(framed: &Framed, task: FrameTask<'a>) -> Option<Task<'a>>
     ensures names { IfSome result (λ t. names_of_task t ≡ names_of_frame_task task.entry) }
-    ensures same { MatchOption result (IsOfFrames task.entry framed.now.invariants.items) (IsOfProgram task.entry framed.now.invariants.items) }
+    ensures same { MatchOption result (IsOfFrames task.entry framed.now.invariants.items (map contract_of framed.now.contracts.items))
+        (IsOfProgram task.entry framed.now.invariants.items (map contract_of framed.now.contracts.items)) }
 {
-    if framed.invariants.is_empty() {
-        as_program(task)
-    } else {
-        None
+    if !framed.invariants.is_empty() {
+        return None;
     }
+    if !framed.contracts.is_empty() {
+        return None;
+    }
+    as_program(task)
 }
 
-/// The answer over frames to a task about a function of a machine. The error is out of memory.
+/// The answer over frames to a task about a function of a machine, whose frame of a rank is asked about. The error is out of memory.
 #[tactic(auto, using(io_edges::proofs::Beginning::begun_none))]
 fn answer_framed_by<M: Machine, H: Shelf>(
     alloc: Global,
@@ -90,25 +98,29 @@ fn answer_framed_by<M: Machine, H: Shelf>(
     image: &Image,
     framed: &Framed,
     task: FrameTask,
+    rank: usize,
 ) -> Result<Answer, AllocError>
     requires machine { IsMachineOf image.now M.machine }
     requires found { IsOverFile image.now framed.now.found }
     requires place { IsAtPlace M.machine.narrow framed.now.found.entry }
     requires rising { IsStrictlyIncreasing framed.now.invariants.items }
+    requires contracts { AreContractsOver image.now framed.now.contracts.items }
+    requires fitted { AreFitted (whole_by M.machine image.now framed.now) }
+    requires rank { rank ≤ length framed.now.contracts.items }
     ensures keeps { (n : List ℕ) → H.holds shelf.new n ≡ H.holds shelf.old n }
     ensures never_falls { (n : List ℕ) → H.faults shelf.old n ≤ H.faults shelf.new n }
     ensures begun { AreBegun (H.begun shelf.old) (H.begun shelf.new) (names_of_frame_task task.entry) }
-    ensures done { IfOk result (λ a. IsSegmented (seen (H.holds shelf.old) (H.faults shelf.old) (H.faults shelf.new)) task.entry M.form
-        (whole_of (program_of M.machine image.now (notes_of framed.now.found.notes) framed.now.found.entry) framed.now.invariants.items) (answer_of a)) }
+    ensures done { IfOk result (λ a. IsSegmented (seen (H.holds shelf.old) (H.faults shelf.old) (H.faults shelf.new)) task.entry rank M.form
+        (whole_by M.machine image.now framed.now) (answer_of a)) }
 {
     match task {
         FrameTask::Report(budget) => report_frames_by::<M>(alloc, image, framed, budget),
-        FrameTask::Graph => graph_by::<M>(alloc, image, &framed.found),
-        FrameTask::Script(question, budget) => {
-            script_frames_by::<M>(alloc, image, framed, budget, question)
+        FrameTask::Graph => graph_frames_by::<M>(alloc, image, framed),
+        FrameTask::Script(question, budget, _) => {
+            script_frames_by::<M>(alloc, image, framed, budget, question, rank)
         }
-        FrameTask::Certificate(question, budget) => {
-            certify_frames_by::<M>(alloc, image, framed, budget, question)
+        FrameTask::Certificate(question, budget, _) => {
+            certify_frames_by::<M>(alloc, image, framed, budget, question, rank)
         }
         FrameTask::Replay(name) => replay_frames_by::<M, H>(alloc, shelf, image, framed, name),
     }
@@ -122,21 +134,23 @@ fn answer_framed_of<M: Machine, H: Shelf>(
     framed: &Framed,
     options: Options,
     task: FrameTask,
+    rank: usize,
 ) -> Result<Answer, AllocError>
     requires machine { machine_of (options_of options) image.now ≡ M.machine }
     requires form { layout_of (options_of options) image.now ≡ M.form }
     requires found { IsOverFile image.now framed.now.found }
     requires place { IsAtPlace (machine_of (options_of options) image.now).narrow framed.now.found.entry }
     requires rising { IsStrictlyIncreasing framed.now.invariants.items }
+    requires contracts { AreContractsOver image.now framed.now.contracts.items }
+    requires fitted { AreFitted (whole_by (machine_of (options_of options) image.now) image.now framed.now) }
+    requires rank { rank ≤ length framed.now.contracts.items }
     ensures keeps { (n : List ℕ) → H.holds shelf.new n ≡ H.holds shelf.old n }
     ensures never_falls { (n : List ℕ) → H.faults shelf.old n ≤ H.faults shelf.new n }
     ensures begun { AreBegun (H.begun shelf.old) (H.begun shelf.new) (names_of_frame_task task.entry) }
-    ensures done { IfOk result (λ a. IsSegmented (seen (H.holds shelf.old) (H.faults shelf.old) (H.faults shelf.new)) task.entry
-        (layout_of (options_of options) image.now)
-        (whole_of (program_of (machine_of (options_of options) image.now) image.now (notes_of framed.now.found.notes) framed.now.found.entry)
-        framed.now.invariants.items) (answer_of a)) }
+    ensures done { IfOk result (λ a. IsSegmented (seen (H.holds shelf.old) (H.faults shelf.old) (H.faults shelf.new)) task.entry rank
+        (layout_of (options_of options) image.now) (whole_by (machine_of (options_of options) image.now) image.now framed.now) (answer_of a)) }
 {
-    answer_framed_by::<M, H>(alloc, shelf, image, framed, task)
+    answer_framed_by::<M, H>(alloc, shelf, image, framed, task, rank)
 }
 
 /// The same, by the file and some options.
@@ -147,26 +161,58 @@ fn answer_segmented_on<H: Shelf>(
     framed: &Framed,
     options: Options,
     task: FrameTask,
+    rank: usize,
 ) -> Result<Answer, AllocError>
     requires found { IsOverFile image.now framed.now.found }
     requires place { IsAtPlace (machine_of (options_of options) image.now).narrow framed.now.found.entry }
     requires rising { IsStrictlyIncreasing framed.now.invariants.items }
+    requires contracts { AreContractsOver image.now framed.now.contracts.items }
+    requires fitted { AreFitted (whole_by (machine_of (options_of options) image.now) image.now framed.now) }
+    requires rank { rank ≤ length framed.now.contracts.items }
     ensures keeps { (n : List ℕ) → H.holds shelf.new n ≡ H.holds shelf.old n }
     ensures never_falls { (n : List ℕ) → H.faults shelf.old n ≤ H.faults shelf.new n }
     ensures begun { AreBegun (H.begun shelf.old) (H.begun shelf.new) (names_of_frame_task task.entry) }
-    ensures done { IfOk result (λ a. IsSegmented (seen (H.holds shelf.old) (H.faults shelf.old) (H.faults shelf.new)) task.entry
-        (layout_of (options_of options) image.now)
-        (whole_of (program_of (machine_of (options_of options) image.now) image.now (notes_of framed.now.found.notes) framed.now.found.entry)
-        framed.now.invariants.items) (answer_of a)) }
+    ensures done { IfOk result (λ a. IsSegmented (seen (H.holds shelf.old) (H.faults shelf.old) (H.faults shelf.new)) task.entry rank
+        (layout_of (options_of options) image.now) (whole_by (machine_of (options_of options) image.now) image.now framed.now) (answer_of a)) }
 {
     on_machine!(
         image,
         options,
-        answer_framed_of[H](alloc, shelf, image, framed, options, task)
+        answer_framed_of[H](alloc, shelf, image, framed, options, task, rank)
     )
 }
 
-/// The answer to a task about a function, as one about a program where it is one. The error is out of memory.
+/// The answer to a task about a function whose frame of a rank is asked about, as one about a program where it is one. The error is out of memory.
+fn answer_ranked_on<H: Shelf>(
+    alloc: Global,
+    shelf: &mut H,
+    image: &Image,
+    framed: &Framed,
+    options: Options,
+    task: FrameTask,
+    rank: usize,
+) -> Result<Answer, AllocError>
+    requires found { IsOverFile image.now framed.now.found }
+    requires place { IsAtPlace (machine_of (options_of options) image.now).narrow framed.now.found.entry }
+    requires rising { IsStrictlyIncreasing framed.now.invariants.items }
+    requires contracts { AreContractsOver image.now framed.now.contracts.items }
+    requires fitted { AreFitted (whole_by (machine_of (options_of options) image.now) image.now framed.now) }
+    requires rank { rank ≤ length framed.now.contracts.items }
+    requires asked { asked_rank (whole_by (machine_of (options_of options) image.now) image.now framed.now) (frame_named task) ≡ Some rank }
+    ensures keeps { (n : List ℕ) → H.holds shelf.new n ≡ H.holds shelf.old n }
+    ensures never_falls { (n : List ℕ) → H.faults shelf.old n ≤ H.faults shelf.new n }
+    ensures begun { AreBegun (H.begun shelf.old) (H.begun shelf.new) (names_of_frame_task task.entry) }
+    ensures done { IfOk result (λ a. IsFramedDone (seen (H.holds shelf.old) (H.faults shelf.old) (H.faults shelf.new)) task.entry
+        (layout_of (options_of options) image.now) (whole_by (machine_of (options_of options) image.now) image.now framed.now) (answer_of a)) }
+{
+    match plain_task(framed, task) {
+        Some(plain) => answer_on(alloc, shelf, image, &framed.found, options, plain),
+        None => answer_segmented_on(alloc, shelf, image, framed, options, task, rank),
+    }
+}
+
+/// The answer to a task about a function, or that no frame has the name that is asked about. The error is out of memory.
+#[tactic(auto, using(io_edges::proofs::Beginning::begun_none))]
 fn answer_framed_on<H: Shelf>(
     alloc: Global,
     shelf: &mut H,
@@ -178,17 +224,17 @@ fn answer_framed_on<H: Shelf>(
     requires found { IsOverFile image.now framed.now.found }
     requires place { IsAtPlace (machine_of (options_of options) image.now).narrow framed.now.found.entry }
     requires rising { IsStrictlyIncreasing framed.now.invariants.items }
+    requires contracts { AreContractsOver image.now framed.now.contracts.items }
+    requires fitted { AreFitted (whole_by (machine_of (options_of options) image.now) image.now framed.now) }
     ensures keeps { (n : List ℕ) → H.holds shelf.new n ≡ H.holds shelf.old n }
     ensures never_falls { (n : List ℕ) → H.faults shelf.old n ≤ H.faults shelf.new n }
     ensures begun { AreBegun (H.begun shelf.old) (H.begun shelf.new) (names_of_frame_task task.entry) }
     ensures done { IfOk result (λ a. IsFramedDone (seen (H.holds shelf.old) (H.faults shelf.old) (H.faults shelf.new)) task.entry
-        (layout_of (options_of options) image.now)
-        (whole_of (program_of (machine_of (options_of options) image.now) image.now (notes_of framed.now.found.notes) framed.now.found.entry)
-        framed.now.invariants.items) (answer_of a)) }
+        (layout_of (options_of options) image.now) (whole_by (machine_of (options_of options) image.now) image.now framed.now) (answer_of a)) }
 {
-    match plain_task(framed, task) {
-        Some(plain) => answer_on(alloc, shelf, image, &framed.found, options, plain),
-        None => answer_segmented_on(alloc, shelf, image, framed, options, task),
+    match rank_asked(alloc, &framed.contracts, task)? {
+        None => answer(alloc, NOTES_REFUSED, b"notes: NoFrame\n"),
+        Some(rank) => answer_ranked_on(alloc, shelf, image, framed, options, task, rank),
     }
 }
 

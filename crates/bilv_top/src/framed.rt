@@ -1,4 +1,4 @@
-//! The inputs of commands that know invariants: notes over an image that may have them.
+//! The inputs of commands that know invariants and contracts: notes over an image that may have them.
 ghost use Rattle.std.specs.Prelude.{◌≡◌, ◌≤◌, ℕ, List, [], ◌∷◌, IfOk, length};
 ghost use Rattle.command_line.specs.Commands.{options_of};
 ghost use Rattle.call_spec.specs.Outside.{Agrees};
@@ -20,17 +20,20 @@ use exit_status::NOTES_REFUSED;
 use framed_notes::parse_headed;
 use io_edges::Shelf;
 use notes_lang::NotesError;
+use notes_value::Contract;
 use std::alloc::{AllocError, Global};
 
-/// Notes over an image, their text, and the address of their function; and the numbers of those assert lines that are invariants, which rise.
+/// Notes over an image, their text, and the address of their function; the numbers of those assert lines that are invariants, which rise; and the contracts in the
+/// order of their ranks.
 #[derive(Drop)]
 pub struct Framed {
     pub found: Found,
     pub invariants: Vec<u32>,
+    pub contracts: Vec<Contract>,
 }
 
-/// The notes that a text says over an image, with their invariants, by some options of the image, and the address of their function, or the answer that refuses
-/// them. The error is out of memory.
+/// The notes that a text says over an image, with their invariants and contracts, by some options of the image, and the address of their function, or the answer
+/// that refuses them. The error is out of memory.
 fn find_framed(
     alloc: Global,
     image: &Image,
@@ -48,16 +51,22 @@ fn find_framed(
     };
     let notes = read.notes;
     let invariants = read.invariants;
+    let contracts = read.contracts;
     match entry_of(image, &notes, options) {
         Ok(entry) => {
             let found = Found { text, notes, entry };
-            Ok(Step::Go(Framed { found, invariants }))
+            let framed = Framed {
+                found,
+                invariants,
+                contracts,
+            };
+            Ok(Step::Go(framed))
         }
         Err(fault) => Ok(Step::Answered(refuse_name(alloc, fault)?)),
     }
 }
 
-/// Reads notes over an image with their invariants, and finds their function, or answers. The error is out of memory.
+/// Reads notes over an image with their invariants and contracts, and finds their function, or answers. The error is out of memory.
 fn read_framed_notes<H: Shelf>(
     alloc: Global,
     shelf: &mut H,
@@ -81,7 +90,8 @@ fn read_framed_notes<H: Shelf>(
     Ok(step)
 }
 
-/// Reads the image of an ELF file that was read and notes over it with their invariants, and finds their function, or answers. The error is out of memory.
+/// Reads the image of an ELF file that was read and notes over it with their invariants and contracts, and finds their function, or answers. The error is out of
+/// memory.
 #[tactic(auto, using(io_edges::proofs::Beginning::begun_none))]
 pub fn read_framed<'a, H: Shelf>(
     alloc: Global,

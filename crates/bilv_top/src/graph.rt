@@ -2,13 +2,16 @@
 ghost use Rattle.std.specs.Prelude.{◌≡◌, IfOk};
 ghost use Rattle.bilv_spec.specs.Files.{program_of};
 ghost use Rattle.bilv_spec.specs.GraphText.{IsGraphText};
-ghost use Rattle.answer_spec.specs.Outcomes.{IsGraphed};
+ghost use Rattle.answer_spec.specs.Outcomes.{IsGraphed, IsGraphedWhole};
 ghost use Rattle.notes_value.specs.NoteViews.{notes_of};
 ghost use Rattle.bilv_top.specs.Answers.{answer_of};
 ghost use Rattle.bilv_top.specs.Chosen.{IsMachineOf};
+ghost use Rattle.bilv_top.specs.Frames.{whole_by};
 
 use crate::answer::{Answer, Evidence};
+use crate::framed::Framed;
 use crate::inputs::Found;
+use contract_graph::print_whole_graph;
 use elf32_reader::Image;
 use exit_status::DONE;
 use flag_live::trim;
@@ -29,15 +32,33 @@ fn live_text<M: Machine>(alloc: Global, image: &Image, found: &Found) -> Result<
 }
 
 /// The answer that prints the flow graph of a program of a machine. The error is out of memory.
-pub fn graph_by<M: Machine>(
-    alloc: Global,
-    image: &Image,
-    found: &Found,
-) -> Result<Answer, AllocError>
+fn graph_by<M: Machine>(alloc: Global, image: &Image, found: &Found) -> Result<Answer, AllocError>
     requires machine { IsMachineOf image.now M.machine }
     ensures { IfOk result (λ a. IsGraphed (program_of M.machine image.now (notes_of found.now.notes) found.now.entry) (answer_of a)) }
 {
     let text = live_text::<M>(alloc, image, found)?;
+    Ok(Answer {
+        status: DONE,
+        text,
+        evidence: Evidence::None,
+    })
+}
+
+/// The answer that prints the flow graph of a function of a machine whose notes may have contracts. The error is out of memory.
+pub fn graph_frames_by<M: Machine>(
+    alloc: Global,
+    image: &Image,
+    framed: &Framed,
+) -> Result<Answer, AllocError>
+    requires machine { IsMachineOf image.now M.machine }
+    ensures { IfOk result (λ a. IsGraphedWhole (whole_by M.machine image.now framed.now) (answer_of a)) }
+{
+    let found = &framed.found;
+    if framed.contracts.is_empty() {
+        return graph_by::<M>(alloc, image, found);
+    }
+    let contracts = framed.contracts.as_slice();
+    let text = print_whole_graph::<M>(alloc, image, &found.notes, contracts, found.entry)?;
     Ok(Answer {
         status: DONE,
         text,

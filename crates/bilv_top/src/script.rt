@@ -1,5 +1,6 @@
 //! The answer that prints the script of a question.
-ghost use Rattle.std.specs.Prelude.{◌≡◌, ℕ, List, string_bytes, IfOk};
+ghost use Rattle.std.specs.Prelude.{◌≡◌, ◌≤◌, ℕ, string_bytes, IfOk, length};
+ghost use Rattle.std.specs.List.Sorted.{IsStrictlyIncreasing};
 ghost use Rattle.call_spec.specs.Calls.{plain_answer, Question as AskedQuestion};
 ghost use Rattle.bilv_spec.specs.Files.{program_of};
 ghost use Rattle.bilv_spec.specs.Run.{Program};
@@ -8,13 +9,14 @@ ghost use Rattle.machine_spec.specs.StateText as texts;
 ghost use Rattle.bilv_top.specs.Answers.{answer_of};
 ghost use Rattle.bilv_top.specs.Chosen.{IsMachineOf};
 ghost use Rattle.bilv_top.specs.Due.{IsOverFile};
+ghost use Rattle.bilv_top.specs.Frames.{AreContractsOver, AreFitted, whole_by};
 ghost use Rattle.call_form.specs.Views.{frame_question, kind_of};
 ghost use Rattle.command_line.specs.Commands.{budget_of};
 ghost use Rattle.frame_spec.specs.FrameScripts.{IsFrameScriptAnswer};
 ghost use Rattle.frame_spec.specs.FrameQuestions.{Question as FrameQuestion};
+ghost use Rattle.frame_spec.specs.FrameVerdict.{Whole};
 ghost use Rattle.frame_verdict.specs.FrameScripted.{IsFrameScripted};
 ghost use Rattle.machine_spec.specs.Machine.{IsAtPlace};
-ghost use Rattle.table_run.specs.FrameEnds.{whole_of};
 ghost use Rattle.notes_value.specs.NoteViews.{notes_of};
 ghost use Rattle.verdict.specs.Verdicts.{IsScripted};
 
@@ -69,11 +71,11 @@ pub fn script_by<M: Machine>(
     say(alloc, budget, scripted)
 }
 
-/// The answer to what the script of a question of the entry's frame comes to within budgets. The error is want of memory.
+/// The answer to what the script of a question of the frame of a rank comes to within budgets. The error is want of memory.
 fn say_frame(alloc: Global, budget: Budget, scripted: Scripted) -> Result<Answer, AllocError>
-    ensures { IfOk result (λ a. (p : Program) (invariants : List ℕ) (layout : texts.Layout) (question : FrameQuestion) →
-        IsFrameScripted (whole_of p invariants) layout (budget_of budget) question scripted →
-        IsFrameScriptAnswer (whole_of p invariants) 0 layout (budget_of budget) question (answer_of a)) }
+    ensures { IfOk result (λ a. (w : Whole) (rank : ℕ) (layout : texts.Layout) (question : FrameQuestion) →
+        IsFrameScripted w rank layout (budget_of budget) question scripted →
+        IsFrameScriptAnswer w rank layout (budget_of budget) question (answer_of a)) }
 {
     match scripted {
         Scripted::Exceeded(past) => beyond(alloc, budget, past),
@@ -81,28 +83,37 @@ fn say_frame(alloc: Global, budget: Budget, scripted: Scripted) -> Result<Answer
     }
 }
 
-/// The answer that prints the script of a question about a function of a machine whose notes may have invariants. The error is want of memory.
+/// The answer that prints the script of a question about the frame of a rank of a function of a machine whose notes may have invariants or contracts. The error is
+/// want of memory.
 pub fn script_frames_by<M: Machine>(
     alloc: Global,
     image: &Image,
     framed: &Framed,
     budget: Budget,
     question: Asked,
+    rank: usize,
 ) -> Result<Answer, AllocError>
     requires machine { IsMachineOf image.now M.machine }
     requires found { IsOverFile image.now framed.now.found }
     requires place { IsAtPlace M.machine.narrow framed.now.found.entry }
-    ensures { IfOk result (λ a. IsFrameScriptAnswer
-        (whole_of (program_of M.machine image.now (notes_of framed.now.found.notes) framed.now.found.entry) framed.now.invariants.items) 0 M.form
-        (budget_of budget) (frame_question question) (answer_of a)) }
+    requires rising { IsStrictlyIncreasing framed.now.invariants.items }
+    requires contracts { AreContractsOver image.now framed.now.contracts.items }
+    requires fitted { AreFitted (whole_by M.machine image.now framed.now) }
+    requires rank { rank ≤ length framed.now.contracts.items }
+    ensures { IfOk result (λ a. IsFrameScriptAnswer (whole_by M.machine image.now framed.now) rank M.form (budget_of budget) (frame_question question)
+        (answer_of a)) }
 {
     let found = &framed.found;
+    let invariants = framed.invariants.as_slice();
+    let contracts = framed.contracts.as_slice();
     let scripted = script_frame::<M>(
         alloc,
         image,
         &found.notes,
-        &framed.invariants,
+        invariants,
+        contracts,
         found.entry,
+        rank,
         &budget,
         question,
     )?;

@@ -7,10 +7,10 @@ ghost use Rattle.bilv_spec.specs.Files.{program_of};
 ghost use Rattle.bilv_top.specs.Answers.{answer_of};
 ghost use Rattle.bilv_top.specs.Chosen.{IsMachineOf};
 ghost use Rattle.bilv_top.specs.Due.{IsOverFile};
+ghost use Rattle.bilv_top.specs.Frames.{AreContractsOver, AreFitted, whole_by};
 ghost use Rattle.command_line.specs.Commands.{budget_of};
 ghost use Rattle.machine_spec.specs.Machine.{IsAtPlace};
 ghost use Rattle.notes_value.specs.NoteViews.{notes_of};
-ghost use Rattle.table_run.specs.FrameEnds.{whole_of};
 
 use crate::answer::Answer;
 use crate::frame_reports::frame_report;
@@ -41,7 +41,7 @@ pub fn report_by<M: Machine>(
     Ok(answer)
 }
 
-/// The report on a function of a machine whose notes have invariants. The error is want of memory.
+/// The report on a function of a machine whose notes have invariants or contracts. The error is want of memory.
 pub fn report_frames_by<M: Machine>(
     alloc: Global,
     image: &Image,
@@ -52,19 +52,22 @@ pub fn report_frames_by<M: Machine>(
     requires found { IsOverFile image.now framed.now.found }
     requires place { IsAtPlace M.machine.narrow framed.now.found.entry }
     requires rising { IsStrictlyIncreasing framed.now.invariants.items }
-    ensures { IfOk result (λ a. IsFrameReported
-        (whole_of (program_of M.machine image.now (notes_of framed.now.found.notes) framed.now.found.entry) framed.now.invariants.items) M.form
-        (budget_of budget) (answer_of a)) }
+    requires contracts { AreContractsOver image.now framed.now.contracts.items }
+    requires fitted { AreFitted (whole_by M.machine image.now framed.now) }
+    ensures { IfOk result (λ a. IsFrameReported (whole_by M.machine image.now framed.now) M.form (budget_of budget) (answer_of a)) }
 {
     let found = &framed.found;
+    let invariants = framed.invariants.as_slice();
+    let contracts = framed.contracts.as_slice();
     let verdict = verify_frame::<M>(
         alloc,
         image,
         &found.notes,
-        &framed.invariants,
+        invariants,
+        contracts,
         found.entry,
         &budget,
     )?;
-    let answer = frame_report(alloc, M::layout(), budget, verdict)?;
+    let answer = frame_report(alloc, M::layout(), contracts, budget, verdict)?;
     Ok(answer)
 }

@@ -7,12 +7,11 @@ use Rattle.notes_spec.specs.Programs.{vocabulary_of}
 use Rattle.notes_spec.specs.Scopes.{in_dialect}
 use Rattle.notes_lang.specs.Framed.{frame_notes_of}
 use Rattle.notes_lang.specs.Judging.{fault_of}
-use Rattle.notes_lang.specs.Parsing.{layout_vocabulary}
 use Rattle.notes_lang.specs.declared.notes.Dialect.TheVariants.{Plain}
 use Rattle.notes_value.specs.NoteViews.{notes_of}
 use Rattle.bilv_top.specs.Answers.{answer_of}
 use Rattle.bilv_top.proofs.Refused.{line_answered, name_answered}
-use Rattle.bilv_top.proofs.Segments.{framed_found, uncontracted}
+use Rattle.bilv_top.proofs.Segments.{framed_found}
 use Rattle.bilv_top.proofs.framed.find_framed.Goals as goal
 
 pub returns-in-Err-Fault : goal.returns-in-Err-Fault
@@ -30,12 +29,11 @@ returns-in-Err-Fault c =
 
 pub returns-in-Ok-entry_of : goal.returns-in-Ok-entry_of
 returns-in-Ok-entry_of c =
-    let read = c.in-Ok.ensures in
-    let bytes = c.deref.result.now in
-    let said = uncontracted (layout_vocabulary c.layout.result Plain) bytes (frame_notes_of c.in-Ok.read) (read.said Plain) in (
+    let read = c.in-Ok.ensures in (
       refl,
-      framed_found (options_of c.args.options) c.args.image.now bytes c.layout.result Plain _ (c.layout.ensures.vocabulary Plain)
-          c.layout.ensures.registers c.layout.ensures.flags c.deref.ensures.value said c.in-Ok-entry_of.ensures read.rising read.readable read.over,
+      framed_found (options_of c.args.options) c.args.image.now c.deref.result.now c.layout.result Plain _ (c.layout.ensures.vocabulary Plain)
+          c.layout.ensures.registers c.layout.ensures.flags c.deref.ensures.value (read.said Plain) c.in-Ok-entry_of.ensures read.rising read.readable read.over
+          read.contracts read.changes,
     )
 
 pub returns-in_ok-refuse_name-in-Err : goal.returns-in_ok-refuse_name-in-Err

@@ -1,20 +1,16 @@
 use Rattle.std.proofs.Common.{subst, sym}
-use Rattle.bilv_spec.specs.Files.{program_of}
 use Rattle.call_spec.specs.Calls.{was_read}
 use Rattle.call_spec.specs.Outside.{Agrees}
-use Rattle.notes_value.specs.NoteViews.{notes_of}
-use Rattle.table_run.specs.FrameEnds.{whole_of}
 use Rattle.io_edges.specs.Met.{seen}
 use Rattle.bilv_top.specs.Answers.{answer_of}
+use Rattle.bilv_top.specs.Frames.{whole_by}
 use Rattle.bilv_top.proofs.Segments.{segment_unread}
 use Rattle.bilv_top.proofs.replay.replay_frames_by.Goals as goal
 
 pub returns-in-Answered-clause-read : goal.returns-in-Answered-clause-read
 returns-in-Answered-clause-read g c =
-    let found = c.args.framed.now.found in
     segment_unread (seen (g.H.Shelf.holds c.args.shelf.now) (g.H.Shelf.faults c.args.shelf.now) (g.H.Shelf.faults c.read_or_answer.new.shelf))
-    c.args.name.now
-    (whole_of (program_of g.M.Machine.machine c.args.image.now (notes_of found.notes) found.entry) c.args.framed.now.invariants.items) g.M.Machine.form
+    c.args.name.now (whole_by g.M.Machine.machine c.args.image.now c.args.framed.now) g.M.Machine.form
     (answer_of c.in-Answered.answer) (rw c.in-Answered.is at c.in_ok-text.ensures.read)
 
 pub returns-clause-read : goal.returns-clause-read

@@ -1,11 +1,13 @@
-use Rattle.std.proofs.Common.{subst}
+use Rattle.std.proofs.Common.{◌≤◌, List, length, subst, sym}
+use Rattle.std.specs.Prelude.{All}
 use Rattle.std.proofs.lemmas.Result.{IfOk-weaker}
-use Rattle.bilv_spec.specs.Files.{program_of}
 use Rattle.call_form.specs.Views.{budget_of, frame_question}
 use Rattle.frame_verdict.specs.FrameScripted.{IsFrameScripted}
-use Rattle.notes_value.specs.NoteViews.{notes_of}
-use Rattle.table_run.specs.FrameEnds.{whole_of}
-use Rattle.bilv_top.proofs.Founds.{found_over, machine_order}
+use Rattle.frame_verdict.specs.FrameFunctions.{IsCallable}
+use Rattle.notes_value.specs.FrameViews.{contract_of}
+use Rattle.notes_value.specs.declared.notes.Contract.{Contract}
+use Rattle.bilv_top.specs.Frames.{whole_by}
+use Rattle.bilv_top.proofs.Founds.{callable_contracts, found_over, machine_order, whole_same}
 use Rattle.bilv_top.proofs.script.script_frames_by.Goals as goal
 
 pub script_frame-requires-clause-order : goal.script_frame-requires-clause-order
@@ -14,12 +16,20 @@ script_frame-requires-clause-order g c = machine_order c.args.image.now g.M.Mach
 pub script_frame-requires-clause-over : goal.script_frame-requires-clause-over
 script_frame-requires-clause-over g c = found_over c.args.image.now c.args.framed.now.found g.M.Machine.machine c.requires.machine c.requires.found
 
+pub script_frame-requires-clause-callable : goal.script_frame-requires-clause-callable
+script_frame-requires-clause-callable g c =
+    subst (λ (l : List Contract). All (λ x. IsCallable g.M.Machine.machine (contract_of x)) l) (sym c.as_slice-contracts.ensures.value)
+    (callable_contracts c.args.image.now g.M.Machine.machine c.args.framed.now c.requires.machine c.requires.contracts c.requires.fitted)
+
+pub script_frame-requires-clause-rank : goal.script_frame-requires-clause-rank
+script_frame-requires-clause-rank g c = subst (λ (l : List Contract). c.args.rank ≤ length l) (sym c.as_slice-contracts.ensures.value) c.requires.rank
+
 pub returns : goal.returns
 returns g c =
-    let found = c.args.framed.now.found in
-    let p = program_of g.M.Machine.machine c.args.image.now (notes_of found.notes) found.entry in
-    let b = budget_of c.args.budget in
+    let f = c.args.framed.now in
     let q = frame_question c.args.question in
-    let scripted =
-    subst (λ x. IsFrameScripted (whole_of p x) g.M.Machine.form b q c.in_ok-scripted.scripted) c.deref.ensures.value c.in_ok-scripted.ensures in
-    IfOk-weaker c.say_frame.result _ _ (λ a said. said p c.args.framed.now.invariants.items g.M.Machine.form q scripted) c.say_frame.ensures
+    let scripted = whole_same (λ w. IsFrameScripted w c.args.rank g.M.Machine.form (budget_of c.args.budget) q c.in_ok-scripted.scripted)
+    g.M.Machine.machine c.args.image.now f c.as_slice-invariants.result.now c.as_slice-contracts.result.now c.as_slice-invariants.ensures.value
+    c.as_slice-contracts.ensures.value c.in_ok-scripted.ensures in
+    IfOk-weaker c.say_frame.result _ _
+    (λ a said. said (whole_by g.M.Machine.machine c.args.image.now f) c.args.rank g.M.Machine.form q scripted) c.say_frame.ensures
