@@ -5,7 +5,7 @@ use bilv_top::Evidence;
 use pair_form::PairKind;
 use question_form::{Asked, Kind};
 
-/// A kind of evidence, with the question or the count that it is about.
+/// A kind of evidence, with the question, the rank or the count that it is about.
 #[derive(Clone, Copy, PartialEq)]
 pub enum EvidenceDue {
     None,
@@ -15,6 +15,8 @@ pub enum EvidenceDue {
     SpentOn(Kind),
     Inductive,
     FromHead,
+    Frames(usize),
+    WithCalls(usize),
     SpentOnFrame(Asked),
     Two,
     Both,
@@ -57,6 +59,8 @@ impl EvidenceDue {
             Evidence::SpentOn { question, .. } => EvidenceDue::SpentOn(*question),
             Evidence::Inductive { .. } => EvidenceDue::Inductive,
             Evidence::FromHead { .. } => EvidenceDue::FromHead,
+            Evidence::Frames(passed) => EvidenceDue::Frames(passed.len()),
+            Evidence::WithCalls { rank, .. } => EvidenceDue::WithCalls(*rank),
             Evidence::SpentOnFrame { question, .. } => EvidenceDue::SpentOnFrame(*question),
             Evidence::Two { .. } => EvidenceDue::Two,
             Evidence::Both { .. } => EvidenceDue::Both,
@@ -69,6 +73,8 @@ impl EvidenceDue {
 fn counted(words: &str) -> Result<EvidenceDue, LineFault> {
     match parted(words) {
         ("count", number) => Ok(EvidenceDue::Count(u128::from(number.parse::<u64>()?))),
+        ("frames", number) => Ok(EvidenceDue::Frames(number.parse::<usize>()?)),
+        ("calls", rank) => Ok(EvidenceDue::WithCalls(rank.parse::<usize>()?)),
         _ => Err(LineFault::Word),
     }
 }
