@@ -39,7 +39,7 @@ pub enum Var {
 }
 
 /// An operator between two words of one width. The comparisons give 1 bit, the others a word of that width.
-#[derive(Clone, Copy, PartialEq, Eq, Debug)]
+#[derive(Clone, Copy, PartialEq, Eq, Hash, Debug)]
 pub enum BinaryOp {
     /// The sum, which wraps.
     Plus,

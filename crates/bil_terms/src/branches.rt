@@ -6,8 +6,9 @@ ghost use Rattle.bil_terms.specs.Merged.{AreSides, IsEitherOf, IsLiveAfter, IsMe
 ghost use Rattle.bil_terms.specs.Runs.{AreBits, IsRun};
 
 use crate::run::{Bits, Run};
+use bil_ast::BinaryOp;
 use std::alloc::{AllocError, Global};
-use term_dag::{Dag, Node, Op, Term};
+use term_dag::{Dag, Node, Term};
 use term_names::{copied, selected, selected_word};
 
 /// The bits by which a run enters the two sides of an if, by its condition of 1 bit. The error is want of memory.
@@ -23,7 +24,7 @@ pub fn split(
     ensures { IfOk result (λ s. IsSplit dag.old dag.new condition.0 live.0 s.0.0 s.1.0) }
 {
     let one = dag.mk(Node::Binary {
-        op: Op::And,
+        op: BinaryOp::And,
         width: 1,
         left: condition,
         right: live,
@@ -71,7 +72,7 @@ pub fn live_after(
         }
     }
     let term = dag.mk(Node::Binary {
-        op: Op::Or,
+        op: BinaryOp::Or,
         width: 1,
         left: when_true,
         right: when_false,

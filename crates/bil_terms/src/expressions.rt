@@ -13,12 +13,11 @@ ghost use Rattle.bil_terms.specs.Naming.{IsScope, known};
 ghost use Rattle.bil_terms.specs.Lowered.{IsMemoryTerm, IsSteady, IsUnary, IsUnknown, IsWordTerm, cast_node};
 
 use crate::Stored;
-use crate::operators::op_of_binary;
 use crate::variables::{LocalTerm, variable_term};
-use bil_ast::{BilType, CastKind, Exp, UnaryOp};
+use bil_ast::{BilType, BinaryOp, CastKind, Exp, UnaryOp};
 use byte_mem::Endian;
 use std::alloc::AllocError;
-use term_dag::{Dag, Node, Op, Term};
+use term_dag::{Dag, Node, Term};
 use term_names::Names;
 
 /// The lowest bits of the choice of the point at a place.
@@ -61,7 +60,7 @@ fn unary_term(dag: &mut Dag, op: UnaryOp, width: u8, term: Term) -> Result<Term,
         UnaryOp::Negate => {
             let zero = dag.keep(Node::Constant { width, value: 0 })?;
             let result = dag.mk(Node::Binary {
-                op: Op::Minus,
+                op: BinaryOp::Minus,
                 width,
                 left: zero,
                 right: term,
@@ -164,7 +163,7 @@ pub fn word_term(
             let right = word_term(right, dag, names, locals, place, live, stored)?;
             let width = dag.width(left);
             let result = dag.mk(Node::Binary {
-                op: op_of_binary(*op),
+                op: *op,
                 width,
                 left,
                 right,

@@ -7,7 +7,6 @@ mod expressions;
 mod jumps;
 mod left;
 mod lists;
-mod operators;
 mod run;
 mod stored;
 mod variables;

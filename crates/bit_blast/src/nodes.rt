@@ -2,7 +2,8 @@
 ghost use Rattle.std.specs.Prelude.{◌≡◌, ℕ, ◌<◌, ◌≤◌, ◌+◌, Bool, length, IfOk};
 ghost use Rattle.term_spec.specs.Terms.{TermReading, ConstantNode, BinaryNode, NotNode, SelectNode, ExtractNode, ConcatNode, ExtendNode, value_at, node_value, node_at, width_of, own_gates, IsTypedOver};
 ghost use Rattle.term_spec.specs.Cells.{IsOfWords};
-ghost use Rattle.term_dag.specs.Nodes.{node_of, op_of};
+ghost use Rattle.bil_ast.specs.Views.{binary_of};
+ghost use Rattle.term_dag.specs.Nodes.{node_of};
 ghost use Rattle.gates.specs.Circuits.{next, Holds, Within};
 ghost use Rattle.word_gates.specs.Numbers.{number, IsWord};
 ghost use Rattle.bit_blast.specs.Places.{AreInOrder, IsNamed, IsReadingAt, seen};
@@ -11,9 +12,10 @@ ghost use Rattle.bit_blast.specs.BitWords.{AreWithin, shapes, values_of};
 use crate::input_places::InputPlaces;
 use crate::inputs::input;
 use crate::operators::operator;
+use bil_ast::BinaryOp;
 use gates::{Bit, Circuit};
 use std::alloc::{AllocError, Global};
-use term_dag::{Node, Op, Term};
+use term_dag::{Node, Term};
 use word_gates::bitwise::choice;
 use word_gates::parts::{concatenation, constant, extension, extract, not, signed_extension};
 
@@ -32,17 +34,17 @@ fn binary(
     alloc: Global,
     circuit: &mut Circuit,
     words: &[Vec<Bit>],
-    op: Op,
+    op: BinaryOp,
     width: u8,
     left: Term,
     right: Term,
 ) -> Result<Vec<Bit>, AllocError>
-    requires typed { IsTypedOver (shapes words.now) (BinaryNode (op_of op) width left.0 right.0) }
+    requires typed { IsTypedOver (shapes words.now) (BinaryNode (binary_of op) width left.0 right.0) }
     requires within { AreWithin (next circuit.old) words.now }
-    ensures made { IfOk result (λ w. IsWord circuit.old circuit.new (own_gates (BinaryNode (op_of op) width left.0 right.0))
-        (width_of (BinaryNode (op_of op) width left.0 right.0)) w.items) }
+    ensures made { IfOk result (λ w. IsWord circuit.old circuit.new (own_gates (BinaryNode (binary_of op) width left.0 right.0))
+        (width_of (BinaryNode (binary_of op) width left.0 right.0)) w.items) }
     ensures value { IfOk result (λ w. (v : ℕ → Bool) (x : TermReading) → Holds v circuit.new →
-        number v w.items ≡ (node_value x (values_of v words.now) (BinaryNode (op_of op) width left.0 right.0)).word) }
+        number v w.items ≡ (node_value x (values_of v words.now) (BinaryNode (binary_of op) width left.0 right.0)).word) }
 {
     let a = operand(words, left);
     let b = operand(words, right);

@@ -3,14 +3,14 @@ ghost use Rattle.std.specs.Prelude.{◌≡◌, ℕ, ◌<◌, ◌≤◌, ◌∷�
 ghost use Rattle.machine_spec.specs.BilCounts.{op_weight};
 ghost use Rattle.machine_spec.specs.BilTyping.{result_width};
 ghost use Rattle.term_spec.specs.Terms.{operate};
-ghost use Rattle.term_dag.specs.Nodes.{op_of};
+ghost use Rattle.bil_ast.specs.Views.{binary_of};
 ghost use Rattle.gates.specs.Circuits.{next, Holds, Within};
 ghost use Rattle.word_gates.specs.Numbers.{number, IsWord};
 
 use crate::products::product_of;
+use bil_ast::BinaryOp;
 use gates::{Bit, Circuit};
 use std::alloc::{AllocError, Global};
-use term_dag::Op;
 use word_gates::arithmetic::{difference, sum};
 use word_gates::bitwise::{and, or, xor};
 use word_gates::compare::{equal, less, less_or_equal, signed_less, signed_less_or_equal};
@@ -30,7 +30,7 @@ fn single(alloc: Global, bit: Bit) -> Result<Vec<Bit>, AllocError>
 pub fn operator(
     alloc: Global,
     circuit: &mut Circuit,
-    op: Op,
+    op: BinaryOp,
     a: &[Bit],
     b: &[Bit],
 ) -> Result<Vec<Bit>, AllocError>
@@ -39,29 +39,32 @@ pub fn operator(
     requires same { length a.now ≡ length b.now }
     requires a_within { Within (next circuit.old) a.now }
     requires b_within { Within (next circuit.old) b.now }
-    ensures made { IfOk result (λ w. IsWord circuit.old circuit.new (op_weight (op_of op) (length a.now)) (result_width (op_of op) (length a.now)) w.items) }
+    ensures made { IfOk result (λ w. IsWord circuit.old circuit.new (op_weight (binary_of op) (length a.now)) (result_width (binary_of op) (length a.now)) w.items) }
     ensures value { IfOk result (λ w. (v : ℕ → Bool) → Holds v circuit.new →
-        number v w.items ≡ operate (op_of op) (length a.now) (number v a.now) (number v b.now)) }
+        number v w.items ≡ operate (binary_of op) (length a.now) (number v a.now) (number v b.now)) }
 {
     match op {
-        Op::Plus => Ok(sum(alloc, circuit, a, b)?),
-        Op::Minus => Ok(difference(alloc, circuit, a, b)?),
-        Op::Times => Ok(product_of(alloc, circuit, a, b)?),
-        Op::Divide => Ok(quotient(alloc, circuit, a, b)?),
-        Op::SignedDivide => Ok(signed_quotient(alloc, circuit, a, b)?),
-        Op::Modulo => Ok(remainder(alloc, circuit, a, b)?),
-        Op::SignedModulo => Ok(signed_remainder(alloc, circuit, a, b)?),
-        Op::And => Ok(and(alloc, circuit, a, b)?),
-        Op::Or => Ok(or(alloc, circuit, a, b)?),
-        Op::Xor => Ok(xor(alloc, circuit, a, b)?),
-        Op::ShiftLeft => Ok(shift_left(alloc, circuit, a, b)?),
-        Op::ShiftRight => Ok(shift_right(alloc, circuit, a, b)?),
-        Op::ShiftSigned => Ok(shift_signed(alloc, circuit, a, b)?),
-        Op::Equal => Ok(single(alloc, equal(circuit, a, b)?)?),
-        Op::NotEqual => Ok(single(alloc, equal(circuit, a, b)?.negation())?),
-        Op::Less => Ok(single(alloc, less(circuit, a, b)?)?),
-        Op::LessEqual => Ok(single(alloc, less_or_equal(circuit, a, b)?)?),
-        Op::SignedLess => Ok(single(alloc, signed_less(alloc, circuit, a, b)?)?),
-        Op::SignedLessEqual => Ok(single(alloc, signed_less_or_equal(alloc, circuit, a, b)?)?),
+        BinaryOp::Plus => Ok(sum(alloc, circuit, a, b)?),
+        BinaryOp::Minus => Ok(difference(alloc, circuit, a, b)?),
+        BinaryOp::Times => Ok(product_of(alloc, circuit, a, b)?),
+        BinaryOp::Divide => Ok(quotient(alloc, circuit, a, b)?),
+        BinaryOp::SignedDivide => Ok(signed_quotient(alloc, circuit, a, b)?),
+        BinaryOp::Modulo => Ok(remainder(alloc, circuit, a, b)?),
+        BinaryOp::SignedModulo => Ok(signed_remainder(alloc, circuit, a, b)?),
+        BinaryOp::And => Ok(and(alloc, circuit, a, b)?),
+        BinaryOp::Or => Ok(or(alloc, circuit, a, b)?),
+        BinaryOp::Xor => Ok(xor(alloc, circuit, a, b)?),
+        BinaryOp::ShiftLeft => Ok(shift_left(alloc, circuit, a, b)?),
+        BinaryOp::ShiftRight => Ok(shift_right(alloc, circuit, a, b)?),
+        BinaryOp::ShiftSigned => Ok(shift_signed(alloc, circuit, a, b)?),
+        BinaryOp::Equal => Ok(single(alloc, equal(circuit, a, b)?)?),
+        BinaryOp::NotEqual => Ok(single(alloc, equal(circuit, a, b)?.negation())?),
+        BinaryOp::Less => Ok(single(alloc, less(circuit, a, b)?)?),
+        BinaryOp::LessEqual => Ok(single(alloc, less_or_equal(circuit, a, b)?)?),
+        BinaryOp::SignedLess => Ok(single(alloc, signed_less(alloc, circuit, a, b)?)?),
+        BinaryOp::SignedLessEqual => Ok(single(
+            alloc,
+            signed_less_or_equal(alloc, circuit, a, b)?,
+        )?),
     }
 }

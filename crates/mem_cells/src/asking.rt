@@ -9,8 +9,9 @@ ghost use Rattle.mem_cells.specs.Asked.{asked_of_parts, file_byte_at, is_of_part
 use crate::building::Build;
 use crate::cells::AskedByte;
 use crate::file_bytes::FileByte;
+use bil_ast::BinaryOp;
 use std::alloc::{AllocError, Global};
-use term_dag::{Dag, Node, Op, Term};
+use term_dag::{Dag, Node, Term};
 
 /// Whether a term is the constant 0.
 fn is_zero(dag: &Dag, term: Term) -> bool
@@ -110,7 +111,7 @@ fn ask(
     }
     let left = build.addresses[read as usize];
     let condition = build.make(Node::Binary {
-        op: Op::Equal,
+        op: BinaryOp::Equal,
         width: 32,
         left,
         right: address,

@@ -11,10 +11,11 @@ ghost use Rattle.mem_cells.specs.Building.{read_places, IsBuilt, GivesAll, Grown
 use crate::pieces::{
     Memories, Piece, Split, StoredByte, Taken, first_part, is_apart, is_within, marked, sum_of,
 };
+use bil_ast::BinaryOp;
 use question_form::Question;
 use std::alloc::{AllocError, Global};
 use std::collections::BTreeMap;
-use term_dag::{Dag, Node, Op, Term};
+use term_dag::{Dag, Node, Term};
 
 /// Cells of a question as far as they are built.
 #[derive(Drop)]
@@ -139,7 +140,7 @@ impl<'a> Build<'a> {
             else term_word x self.old.dag below.0)) }
     {
         let condition = self.make(Node::Binary {
-            op: Op::Equal,
+            op: BinaryOp::Equal,
             width: 32,
             left: address,
             right: put.address,
@@ -188,19 +189,19 @@ impl<'a> Build<'a> {
             (term_word x self.old.dag address.0 == term_word x self.old.dag second.0)))) }
     {
         let is_first = self.make(Node::Binary {
-            op: Op::Equal,
+            op: BinaryOp::Equal,
             width: 32,
             left: address,
             right: first,
         })?;
         let is_second = self.make(Node::Binary {
-            op: Op::Equal,
+            op: BinaryOp::Equal,
             width: 32,
             left: address,
             right: second,
         })?;
         let either = self.make(Node::Binary {
-            op: Op::Or,
+            op: BinaryOp::Or,
             width: 1,
             left: is_first,
             right: is_second,
@@ -219,7 +220,7 @@ impl<'a> Build<'a> {
             (λ x. bit (is_among (term_word x self.old.dag first.0) bytes (term_word x self.old.dag address.0)))) }
     {
         let distance = self.make(Node::Binary {
-            op: Op::Minus,
+            op: BinaryOp::Minus,
             width: 32,
             left: address,
             right: first,
@@ -229,7 +230,7 @@ impl<'a> Build<'a> {
             value: bytes as u64,
         })?;
         let below = self.make(Node::Binary {
-            op: Op::Less,
+            op: BinaryOp::Less,
             width: 32,
             left: distance,
             right: count,
@@ -248,7 +249,7 @@ impl<'a> Build<'a> {
     {
         if taken.bytes == 1 {
             let is_first = self.make(Node::Binary {
-                op: Op::Equal,
+                op: BinaryOp::Equal,
                 width: 32,
                 left: address,
                 right: taken.first,

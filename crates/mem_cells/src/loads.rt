@@ -9,8 +9,9 @@ ghost use Rattle.mem_cells.specs.Building.{with_byte, IsBuilt, Grown, IsWord, Is
 
 use crate::building::Build;
 use crate::pieces::Memories;
+use bil_ast::BinaryOp;
 use std::alloc::{AllocError, Global};
-use term_dag::{Node, Op, Term};
+use term_dag::{Node, Term};
 
 /// The address some bytes behind another.
 pub fn raised(build: &mut Build, address: Term, bytes: u8) -> Result<Term, AllocError>
@@ -24,7 +25,7 @@ pub fn raised(build: &mut Build, address: Term, bytes: u8) -> Result<Term, Alloc
         value: bytes as u64,
     })?;
     let term = build.make(Node::Binary {
-        op: Op::Plus,
+        op: BinaryOp::Plus,
         width: 32,
         left: address,
         right,

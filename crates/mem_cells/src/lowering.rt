@@ -3,7 +3,7 @@
 ghost use Rattle.std.specs.Prelude.{◌≡◌, ◌+◌, ◌<◌, [], length, map, slice_index, Contains, IfOk, OnOk};
 ghost use Rattle.std.specs.List.{AllByRecursion};
 ghost use Rattle.term_spec.specs.Cells.{IsOfWords};
-ghost use Rattle.term_spec.specs.Terms.{LoadNode, StoreNode, JoinNode, MemoryNode, TakeNode, AreTyped};
+ghost use Rattle.term_spec.specs.Terms.{LoadNode, StoreNode, JoinNode, MemoryNode, TakeNode};
 ghost use Rattle.frame_terms.specs.PassiveFrames.{AreNamedBelow};
 ghost use Rattle.word_spec.specs.Memory.{endian};
 ghost use Rattle.term_dag.specs.Nodes.{node_of};
@@ -244,7 +244,6 @@ fn lower(
 pub fn lower_all(build: &mut Build, alloc: Global) -> Result<Lowered, AllocError>
     requires nodes { build.old.dag ≡ [] }
     requires reads { read_places build.old ≡ [] }
-    requires typed { AreTyped (source_of build.old) }
     requires named { AreNamedBelow (frame_of_build build.old) (heads_of_build build.old) 0 (source_of build.old) }
     ensures question { OnOk result (build.new.question ≡ build.old.question) }
     ensures lowered { IfOk result (λ l. Lowers (length (source_of build.old)) build.new l) }

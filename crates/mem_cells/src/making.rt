@@ -1,7 +1,7 @@
 //! The cells of a question.
 
 ghost use Rattle.std.specs.Prelude.{◌≡◌, ℕ, ◌<◌, Some, length, slice_index, Contains, IfOk};
-ghost use Rattle.term_spec.specs.Terms.{HasWidth, AreTyped};
+ghost use Rattle.term_spec.specs.Terms.{HasWidth};
 ghost use Rattle.walk_spec.specs.Unrolled.{byte_of_runs};
 ghost use Rattle.term_spec.specs.WalkQuestions as walks;
 ghost use Rattle.term_spec.specs.WalkQuestions.{Room};
@@ -48,7 +48,6 @@ fn made<'a>(
     words: &[Term],
     added: &[u32],
 ) -> Result<CelledWords<'a>, AllocError>
-    requires typed { AreTyped (term_of question.now).nodes }
     requires named { frames.AreNamedBelow (frame_of_question question.now) (heads_of_question question.now) 0 (term_of question.now).nodes }
     requires root { HasWidth (term_of question.now).nodes 1 (term_of question.now).root }
     requires words { (t : Term) → Contains words.now t → IsWordAt (term_of question.now).nodes t.0 }

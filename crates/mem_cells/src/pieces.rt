@@ -1,11 +1,12 @@
 //! Memories as pieces, and which of them the byte at an address needs.
 
 ghost use Rattle.std.specs.Prelude.{◌≡◌, ℕ, ◌+◌, ◌<◌, ◌≤◌, ◌⊎◌, Bool, true, false, List, Some, length, slice_get, slice_index_or, IfOk, IfSome, IfNone};
-ghost use Rattle.term_spec.specs.Terms.{AreTyped, HasWidth};
+ghost use Rattle.term_spec.specs.Terms.{HasWidth};
 ghost use Rattle.mem_cells.specs.Pieces.{ends_in, lies_apart, bool_at, AreRising, IsRising, Needs, AreClosed, IsSplit, IsZero, part_read, piece_at};
 
+use bil_ast::BinaryOp;
 use std::alloc::{AllocError, Global};
-use term_dag::{Dag, Node, Op, Term};
+use term_dag::{Dag, Node, Term};
 
 /// A word as the sum of a term and a constant.
 #[derive(Clone, Copy)]
@@ -68,11 +69,11 @@ pub struct Memories {
 
 /// A word as a sum. A constant is one of the term `zero`, which is 0.
 pub fn sum_of(dag: &Dag, zero: Term, term: Term) -> Split
-    requires typed { AreTyped dag.now }
     requires zero { IsZero dag.now zero.0 }
     requires place { HasWidth dag.now 32 term.0 }
     ensures { IsSplit dag.now term.0 result.base.0 result.offset }
 {
+    let _typed = dag.nodes();
     if let Some(value) = dag.constant(term) {
         return Split {
             base: zero,
@@ -80,7 +81,7 @@ pub fn sum_of(dag: &Dag, zero: Term, term: Term) -> Split
         };
     }
     if let Node::Binary {
-        op: Op::Plus,
+        op: BinaryOp::Plus,
         left,
         right,
         ..

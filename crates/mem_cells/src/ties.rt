@@ -10,8 +10,9 @@ use crate::building::Build;
 use crate::cells::Agreement;
 use crate::parts::has_part;
 use crate::pieces::{Split, is_apart, sum_of};
+use bil_ast::BinaryOp;
 use std::alloc::{AllocError, Global};
-use term_dag::{Node, Op, Term};
+use term_dag::{Node, Term};
 
 /// Whether some share a part with others.
 fn is_shared(parts: &[u32], others: &[u32]) -> bool
@@ -95,7 +96,7 @@ fn tie(
     let left = build.addresses[read as usize];
     let right = build.addresses[other as usize];
     let condition = build.make(Node::Binary {
-        op: Op::Equal,
+        op: BinaryOp::Equal,
         width: 32,
         left,
         right,

@@ -5,24 +5,26 @@ ghost use Rattle.machine_spec.specs.Bil as bil;
 ghost use Rattle.word_spec.specs.Words.{bit};
 ghost use Rattle.bilv_spec.specs.Notes as notes;
 ghost use Rattle.bilv_spec.specs.Notes.{apply, is_true};
-ghost use Rattle.term_spec.specs.Terms.{TermReading, BinaryNode, AreTyped, HasWidth, term_word};
-ghost use Rattle.term_dag.specs.Nodes.{node_of, op_of};
+ghost use Rattle.term_spec.specs.Terms.{TermReading, BinaryNode, HasWidth, term_word};
+ghost use Rattle.bil_ast.specs.Views.{binary_of};
+ghost use Rattle.term_dag.specs.Nodes.{node_of};
 ghost use Rattle.notes_value.specs.Views as views;
 ghost use Rattle.note_terms.specs.Steps.{IsApplied, IsConnected, IsNarrow, IsOnWords, IsOperation, IsShown, IsStep, IsValueAt, IsZero, operator_gates};
 
+use bil_ast::BinaryOp;
 use notes_value::Operator;
 use std::alloc::AllocError;
-use term_dag::{Dag, Node, Op, Term};
+use term_dag::{Dag, Node, Term};
 
 /// An operator between two words, whose operands may have to change places.
 #[derive(Clone, Copy)]
 struct Operation {
-    op: Op,
+    op: BinaryOp,
     swapped: bool,
 }
 
 /// An operator whose operands stay in their places.
-fn plain(op: Op) -> Operation
+fn plain(op: BinaryOp) -> Operation
     ensures op { result.op ≡ op }
     ensures swapped { result.swapped ≡ false }
 {
@@ -30,7 +32,7 @@ fn plain(op: Op) -> Operation
 }
 
 /// An operator whose operands change places.
-fn swapped(op: Op) -> Operation
+fn swapped(op: BinaryOp) -> Operation
     ensures op { result.op ≡ op }
     ensures swapped { result.swapped ≡ true }
 {
@@ -39,10 +41,10 @@ fn swapped(op: Op) -> Operation
 
 /// A word of at most 32 bits as one of 32.
 pub fn widened(dag: &mut Dag, term: Term) -> Result<Term, AllocError>
-    requires typed { AreTyped dag.old }
     requires narrow { IsNarrow dag.old term.0 }
     ensures { IfOk result (λ t. IsStep dag.old dag.new 0 0 1 (λ w. w ≡ 32) (λ x. term_word x dag.old term.0) t.0) }
 {
+    let _typed = dag.nodes();
     let from = dag.width(term);
     if from == 32 {
         return Ok(term);
@@ -66,16 +68,16 @@ pub fn widened(dag: &mut Dag, term: Term) -> Result<Term, AllocError>
 
 /// Whether a value counts as true.
 pub fn truth(dag: &mut Dag, zero: Term, term: Term) -> Result<Term, AllocError>
-    requires typed { AreTyped dag.old }
     requires zero { IsZero dag.old zero.0 }
     requires term { IsValueAt dag.old term.0 }
     ensures { IfOk result (λ t. IsStep dag.old dag.new 32 0 2 (λ w. w ≡ 1) (λ x. bit (is_true (term_word x dag.old term.0))) t.0) }
 {
+    let _typed = dag.nodes();
     if dag.width(term) == 1 {
         return Ok(term);
     }
     let bit = dag.mk(Node::Binary {
-        op: Op::NotEqual,
+        op: BinaryOp::NotEqual,
         width: 32,
         left: term,
         right: zero,
@@ -85,7 +87,6 @@ pub fn truth(dag: &mut Dag, zero: Term, term: Term) -> Result<Term, AllocError>
 
 /// Whether a value does not count as true.
 pub fn falsity(dag: &mut Dag, zero: Term, term: Term) -> Result<Term, AllocError>
-    requires typed { AreTyped dag.old }
     requires zero { IsZero dag.old zero.0 }
     requires term { IsValueAt dag.old term.0 }
     ensures { IfOk result (λ t. IsStep dag.old dag.new 32 0 2 (λ w. w ≡ 1) (λ x. bit (not (is_true (term_word x dag.old term.0)))) t.0) }
@@ -95,7 +96,7 @@ pub fn falsity(dag: &mut Dag, zero: Term, term: Term) -> Result<Term, AllocError
         return Ok(bit);
     }
     let bit = dag.mk(Node::Binary {
-        op: Op::Equal,
+        op: BinaryOp::Equal,
         width: 32,
         left: term,
         right: zero,
@@ -104,10 +105,10 @@ pub fn falsity(dag: &mut Dag, zero: Term, term: Term) -> Result<Term, AllocError
 }
 
 /// The operator between bits.
-fn connective(both: bool) -> Op
-    ensures { op_of result ≡ (if both then bil.And else bil.Or) }
+fn connective(both: bool) -> BinaryOp
+    ensures { binary_of result ≡ (if both then bil.And else bil.Or) }
 {
-    if both { Op::And } else { Op::Or }
+    if both { BinaryOp::And } else { BinaryOp::Or }
 }
 
 /// Whether both of two values count as true, or one of them.
@@ -118,7 +119,6 @@ pub fn connected(
     left: Term,
     right: Term,
 ) -> Result<Term, AllocError>
-    requires typed { AreTyped dag.old }
     requires zero { IsZero dag.old zero.0 }
     requires left { IsValueAt dag.old left.0 }
     requires right { IsValueAt dag.old right.0 }
@@ -138,35 +138,35 @@ pub fn connected(
 /// The operator of terms that one on words is.
 fn on_words(op: Operator) -> Operation
     requires { IsOnWords (views.op_of op) }
-    ensures { IsOperation (views.op_of op) (op_of result.op) result.swapped }
+    ensures { IsOperation (views.op_of op) (binary_of result.op) result.swapped }
 {
     match op {
         Operator::Or | Operator::And => unreachable!(),
-        Operator::Equal => plain(Op::Equal),
-        Operator::NotEqual => plain(Op::NotEqual),
-        Operator::Below => plain(Op::Less),
-        Operator::AtMost => plain(Op::LessEqual),
-        Operator::Above => swapped(Op::Less),
-        Operator::AtLeast => swapped(Op::LessEqual),
-        Operator::SignedBelow => plain(Op::SignedLess),
-        Operator::SignedAtMost => plain(Op::SignedLessEqual),
-        Operator::SignedAbove => swapped(Op::SignedLess),
-        Operator::SignedAtLeast => swapped(Op::SignedLessEqual),
-        Operator::BitOr => plain(Op::Or),
-        Operator::BitXor => plain(Op::Xor),
-        Operator::BitAnd => plain(Op::And),
-        Operator::ShiftLeft => plain(Op::ShiftLeft),
-        Operator::ShiftRight => plain(Op::ShiftRight),
-        Operator::ShiftSigned => plain(Op::ShiftSigned),
-        Operator::Plus => plain(Op::Plus),
-        Operator::Minus => plain(Op::Minus),
-        Operator::Times => plain(Op::Times),
+        Operator::Equal => plain(BinaryOp::Equal),
+        Operator::NotEqual => plain(BinaryOp::NotEqual),
+        Operator::Below => plain(BinaryOp::Less),
+        Operator::AtMost => plain(BinaryOp::LessEqual),
+        Operator::Above => swapped(BinaryOp::Less),
+        Operator::AtLeast => swapped(BinaryOp::LessEqual),
+        Operator::SignedBelow => plain(BinaryOp::SignedLess),
+        Operator::SignedAtMost => plain(BinaryOp::SignedLessEqual),
+        Operator::SignedAbove => swapped(BinaryOp::SignedLess),
+        Operator::SignedAtLeast => swapped(BinaryOp::SignedLessEqual),
+        Operator::BitOr => plain(BinaryOp::Or),
+        Operator::BitXor => plain(BinaryOp::Xor),
+        Operator::BitAnd => plain(BinaryOp::And),
+        Operator::ShiftLeft => plain(BinaryOp::ShiftLeft),
+        Operator::ShiftRight => plain(BinaryOp::ShiftRight),
+        Operator::ShiftSigned => plain(BinaryOp::ShiftSigned),
+        Operator::Plus => plain(BinaryOp::Plus),
+        Operator::Minus => plain(BinaryOp::Minus),
+        Operator::Times => plain(BinaryOp::Times),
     }
 }
 
 /// The node of an operator between two words.
 fn binary(operation: Operation, left: Term, right: Term) -> Node
-    ensures { node_of result ≡ BinaryNode (op_of operation.op) 32 (if operation.swapped then right.0 else left.0) (if operation.swapped then left.0
+    ensures { node_of result ≡ BinaryNode (binary_of operation.op) 32 (if operation.swapped then right.0 else left.0) (if operation.swapped then left.0
         else right.0) }
 {
     let op = operation.op;
@@ -190,7 +190,6 @@ fn binary(operation: Operation, left: Term, right: Term) -> Node
 /// An operator between two values as words.
 fn operated(dag: &mut Dag, op: Operator, left: Term, right: Term) -> Result<Term, AllocError>
     requires words { IsOnWords (views.op_of op) }
-    requires typed { AreTyped dag.old }
     requires left { IsValueAt dag.old left.0 }
     requires right { IsValueAt dag.old right.0 }
     ensures { IfOk result (λ t. IsApplied dag.old dag.new (views.op_of op) left.0 right.0 t.0) }
@@ -209,7 +208,6 @@ pub fn applied(
     left: Term,
     right: Term,
 ) -> Result<Term, AllocError>
-    requires typed { AreTyped dag.old }
     requires zero { IsZero dag.old zero.0 }
     requires left { IsValueAt dag.old left.0 }
     requires right { IsValueAt dag.old right.0 }

@@ -3,7 +3,7 @@
 ghost use Rattle.std.specs.Prelude.{◌≡◌, ◌<◌, ◌≤◌, ◌-◌, ◌+◌, true, length, slice_index, IfOk};
 ghost use Rattle.word_spec.specs.Memory.{endian, load};
 ghost use Rattle.bilv_spec.specs.Notes.{put_bound, written_out};
-ghost use Rattle.term_spec.specs.Terms.{TermReading, ConstantNode, AreTyped, HasMemory, HasWidth, term_value, term_word};
+ghost use Rattle.term_spec.specs.Terms.{TermReading, ConstantNode, HasMemory, HasWidth, term_value, term_word};
 ghost use Rattle.walk_spec.specs.Unrolled.{is_flag_of, is_register_of};
 ghost use Rattle.walk_spec.specs.Unrolling.{IsReadable};
 ghost use Rattle.term_dag.specs.Made.{IsInterned};
@@ -51,7 +51,6 @@ fn bytes(size: Size) -> u8
 
 /// A number of 32 bits.
 fn number_term(dag: &mut Dag, number: u32) -> Result<Term, AllocError>
-    requires typed { AreTyped dag.old }
     ensures { IfOk result (λ t. IsInterned dag.old dag.new (ConstantNode 32 number) t.0) }
 {
     let term = dag.keep(Node::Constant {
@@ -69,7 +68,6 @@ fn loaded(
     big: bool,
     address: Term,
 ) -> Result<Term, AllocError>
-    requires typed { AreTyped dag.old }
     requires memory { HasMemory dag.old memory.0 }
     requires address { IsValueAt dag.old address.0 }
     ensures { IfOk result (λ t. IsLoaded dag.old dag.new (bytes_of size) (endian big) memory.0 address.0 t.0) }
@@ -101,10 +99,10 @@ pub fn value<'a>(
     requires same { HaveSameForm now.now.names.now entry.now.names.now }
     requires now { AreStateTerms dag.old now.now }
     requires entry { AreStateTerms dag.old entry.now }
-    requires typed { AreTyped dag.old }
     requires zero { IsZero dag.old zero.0 }
     ensures { IfOk result (λ t. IsValue dag.old dag.new big (put_bound bound (expr_of says.now)) now.now entry.now t.0) }
 {
+    let _typed = dag.nodes();
     match says {
         Expr::Number(number) => {
             let term = number_term(dag, *number)?;
@@ -160,7 +158,6 @@ fn all_true<'a>(
     requires same { HaveSameForm now.now.names.now entry.now.names.now }
     requires now { AreStateTerms dag.old now.now }
     requires entry { AreStateTerms dag.old entry.now }
-    requires typed { AreTyped dag.old }
     requires zero { IsZero dag.old zero.0 }
     ensures { IfOk result (λ t. IsValue dag.old dag.new big (written_out low high (expr_of says.now)) now.now entry.now t.0) }
 {

@@ -1,7 +1,7 @@
 //! The bits that stand for the inputs of the second side.
 ghost use Rattle.std.specs.Prelude.{◌≡◌, ℕ, ◌+◌, ◌≤◌, Bool, true, List, length, Contains, [], IfOk};
 ghost use Rattle.clause_spec.specs.Clauses.{valuation};
-ghost use Rattle.term_spec.specs.Terms.{TermReading, TermNode, node_value, width_of, AreTyped};
+ghost use Rattle.term_spec.specs.Terms.{TermReading, TermNode, node_value, width_of};
 ghost use Rattle.term_dag.specs.Nodes.{IsWordInput, node_of};
 ghost use Rattle.gates.specs.Circuits.{Within};
 ghost use Rattle.word_gates.specs.Numbers.{input_number, number};
@@ -68,7 +68,6 @@ fn stand_in_all(
     dag: &Dag,
     others: &[Term],
 )
-    requires typed { AreTyped dag.now }
     requires named { (n : TermNode) → Contains dag.now n → IsNamed places.now n }
     requires order { AreInOrder places.now }
     requires all { length bits.old ≡ places.now.inputs }
@@ -78,6 +77,7 @@ fn stand_in_all(
     ensures value { (v : ℕ → Bool) (x : TermReading) → IsReadingAt places.now (seen bits.old v) x →
         same_words (words_under v words.now entries.now) (words_read x dag.now others.now) ≡ true → truths v bits.new ≡ truths v bits.old }
 {
+    let _typed = dag.nodes();
     for i in 0..entries.len() {
         let word = operand(words, entries[i]);
         let node = dag.node(others[i]);
@@ -96,7 +96,6 @@ pub fn linked_inputs(
     dag: &Dag,
     others: &[Term],
 ) -> Result<Vec<Bit>, AllocError>
-    requires typed { AreTyped dag.now }
     requires named { (n : TermNode) → Contains dag.now n → IsNamed places.now n }
     requires order { AreInOrder places.now }
     requires all { length own.now ≡ places.now.inputs }

@@ -3,7 +3,6 @@
 ghost use Rattle.std.specs.Prelude.{◌≡◌, ◌<◌, ◌≤◌, ◌+◌, ◌*◌, ◌^◌, IfOk, length, map, sum_by};
 ghost use Rattle.std.specs.List.{flat_map, list_any};
 ghost use Rattle.bilv_spec.specs.Points.{line_price, bytes_loaded};
-ghost use Rattle.term_spec.specs.Terms.{AreTyped};
 ghost use Rattle.walk_spec.specs.Unrolled.{point_at};
 ghost use Rattle.walk_spec.specs.Unrolling.{IsWalkable};
 ghost use Rattle.walk_spec.specs.Prices.{line_steps, variables_of};
@@ -106,7 +105,6 @@ fn at_exit(
     second: bool,
 ) -> Result<Exit, AllocError>
     requires walkable { IsWalkable (unrolled_of unrolled.now) }
-    requires typed { AreTyped dag.old }
     requires last { CarriesTo (unrolled_of unrolled.now) (last_of (unrolled_of unrolled.now)) dag.old names.now }
     requires reached { TellsMet (unrolled_of unrolled.now) dag.old reached.0 }
     requires links { AreLinksOfSide second unrolled.now.form links.now }
@@ -137,7 +135,6 @@ fn at_exit(
 
 /// The exit where it is never met: its words are constants.
 fn never(alloc: Global, dag: &mut Dag, links: &[Link], second: bool) -> Result<Exit, AllocError>
-    requires typed { AreTyped dag.old }
     requires links { (form : Layout) × AreLinksOfSide second form links.now }
     ensures { IfOk result (λ e. IsBlank dag.old dag.new (flat_map exit_widths (links_of links.now)) (1 + length links.now) e.met.0 (places_of e.words.items)) }
 {
@@ -160,7 +157,6 @@ fn exit_of(
     requires formed { IsFormed unrolled.now }
     requires more { 1 < length unrolled.now.points.items }
     requires few { length unrolled.now.points.items ≤ 2 ^ 32 }
-    requires typed { AreTyped dag.old }
     requires last { AreCarriedTo (unrolled_of unrolled.now) (last_of (unrolled_of unrolled.now)) dag.old last }
     requires reached { TellsMet (unrolled_of unrolled.now) dag.old reached.0 }
     requires links { AreLinksOfSide second unrolled.now.form links.now }

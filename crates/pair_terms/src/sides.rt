@@ -1,7 +1,7 @@
 //! A side of a question about two functions, as terms.
 
 ghost use Rattle.std.specs.Prelude.{◌≡◌, ℕ, List, ◌∷◌, IfOk};
-ghost use Rattle.term_spec.specs.Terms.{AreTyped, HasWidth};
+ghost use Rattle.term_spec.specs.Terms.{HasWidth};
 ghost use Rattle.walk_spec.specs.Unrolling.{IsWalkable};
 ghost use Rattle.question_form.specs.FrameViews.{IsHeadless};
 ghost use Rattle.question_form.specs.Views.{unrolled_of};
@@ -31,13 +31,11 @@ fn entry_terms(
     second: bool,
 ) -> Result<Vec<Term>, AllocError>
     requires walkable { IsWalkable (unrolled_of unrolled.now) }
-    requires typed { AreTyped dag.old }
     requires links { AreLinksOfSide second unrolled.now.form links.now }
     ensures { IfOk result (λ ts. AreEntryTerms (unrolled_of unrolled.now) second (links_of links.now) dag.old dag.new (places_of ts.items)) }
 {
     let (first, count) = unrolled.form.registers();
     let names = entry_names(alloc, dag, first, count, unrolled.form.flag_count())?;
-    let _typed = dag.nodes();
     let terms = link_terms(alloc, dag, &names, links, second, false)?;
     Ok(terms)
 }
@@ -61,10 +59,8 @@ struct Ends {
 
 /// The exit's bit tied to the entry's, and the exit's words, copied into the entry's nodes.
 fn tied(alloc: Global, dag: &mut Dag, exit: &ExitTerms, entry: Term) -> Result<Ends, AllocError>
-    requires source { AreTyped exit.now.passive.dag }
     requires met { HasWidth exit.now.passive.dag 1 exit.now.met.0 }
     requires words { (widths : List ℕ) × HaveWidths exit.now.passive.dag (places_of exit.now.words.items) widths }
-    requires typed { AreTyped dag.old }
     requires entry { HasWidth dag.old 1 entry.0 }
     ensures { IfOk result (λ t. AreTied (program_of_exit exit.now) exit.now.passive.dag dag.old dag.new entry.0 exit.now.met.0
         (places_of exit.now.words.items) t.root.0 (places_of t.exits.items)) }
@@ -85,10 +81,8 @@ fn tied_by(
     entry: Term,
     kind: PairKind,
 ) -> Result<Ends, AllocError>
-    requires source { AreTyped exit.now.passive.dag }
     requires met { HasWidth exit.now.passive.dag 1 exit.now.met.0 }
     requires words { (widths : List ℕ) × HaveWidths exit.now.passive.dag (places_of exit.now.words.items) widths }
-    requires typed { AreTyped dag.old }
     requires entry { HasWidth dag.old 1 entry.0 }
     ensures { IfOk result (λ t. AreTiedBy (pair_question_of kind) (program_of_exit exit.now) exit.now.passive.dag dag.old dag.new entry.0 exit.now.met.0
         (places_of exit.now.words.items) t.root.0 (places_of t.exits.items)) }

@@ -3,7 +3,7 @@
 ghost use Rattle.std.specs.Prelude.{◌≡◌, ◌≤◌, ◌<◌, ◌+◌, ◌*◌, ◌^◌, IfOk, true, [], ◌∷◌, map, length, replicate};
 ghost use Rattle.std.specs.List.{flat_map};
 ghost use Rattle.word_spec.specs.RowFiles.{from_to};
-ghost use Rattle.term_spec.specs.Terms.{AreTyped, HasMemory, IsWidth, term_value};
+ghost use Rattle.term_spec.specs.Terms.{HasMemory, IsWidth, term_value};
 ghost use Rattle.term_spec.specs.Passive.{AreNames};
 ghost use Rattle.start_value.specs.declared.layout.Layout.{Layout};
 ghost use Rattle.term_names.specs.Views.{form_of, names_of};
@@ -56,12 +56,12 @@ fn part_of(link: Link, second: bool, at_exit: bool) -> Part
 
 /// The term of a register or a flag.
 fn named_term(dag: &mut Dag, names: &Names, named: Named) -> Result<Term, AllocError>
-    requires typed { AreTyped dag.old }
     requires names { AreNames (form_of names.now) dag.old (names_of names.now) }
     requires named { IsNamedIn names.now named }
     ensures { IfOk result (λ t. AreWordTerms dag.old dag.new (form_of names.now) (names_of names.now) (part_widths (Part.Word named)) (part_words (Part.Word named))
         (t.0 ∷ []) 0 1) }
 {
+    let _typed = dag.nodes();
     match named {
         Named::Zero => {
             let term = dag.keep(Node::Constant {
@@ -77,7 +77,6 @@ fn named_term(dag: &mut Dag, names: &Names, named: Named) -> Result<Term, AllocE
 
 /// The term of a byte of a memory.
 fn byte(dag: &mut Dag, memory: Term, address: u32) -> Result<Term, AllocError>
-    requires typed { AreTyped dag.old }
     requires memory { HasMemory dag.old memory.0 }
     ensures { IfOk result (λ t. IsStep dag.old dag.new 0 1 3 (λ w. w ≡ 8) (λ x. (term_value x dag.old memory.0).bytes address) t.0) }
 {
@@ -102,13 +101,13 @@ fn bytes(
     low: u32,
     count: u32,
 ) -> Result<Vec<Term>, AllocError>
-    requires typed { AreTyped dag.old }
     requires names { AreNames (form_of names.now) dag.old (names_of names.now) }
     requires few { count ≤ 256 }
     requires within { low + count ≤ 2 ^ 32 }
     ensures { IfOk result (λ ts. AreWordTerms dag.old dag.new (form_of names.now) (names_of names.now) (map (λ a. 8) (from_to low count))
         (map (λ a s. s.mem a) (from_to low count)) (places_of ts.items) count (3 * count)) }
 {
+    let _typed = dag.nodes();
     let mut terms = Vec::with_capacity(alloc, count as usize)?;
     for i in 0..count {
         let term = byte(dag, names.memory, low + i)?;
@@ -124,12 +123,12 @@ fn part_terms(
     names: &Names,
     part: Part,
 ) -> Result<Vec<Term>, AllocError>
-    requires typed { AreTyped dag.old }
     requires names { AreNames (form_of names.now) dag.old (names_of names.now) }
     requires part { IsPartIn names.now part }
     ensures { IfOk result (λ ts. AreWordTerms dag.old dag.new (form_of names.now) (names_of names.now) (part_widths part) (part_words part) (places_of ts.items)
         (part_loads part) (part_nodes part)) }
 {
+    let _typed = dag.nodes();
     match part {
         Part::Nothing => Ok(Vec::new(alloc)),
         Part::Word(named) => {
@@ -153,13 +152,13 @@ pub fn link_terms(
     second: bool,
     at_exit: bool,
 ) -> Result<Vec<Term>, AllocError>
-    requires typed { AreTyped dag.old }
     requires names { AreNames (form_of names.now) dag.old (names_of names.now) }
     requires links { (form : Layout) × AreOfForm form names.now × AreLinksOfSide second form links.now }
     ensures { IfOk result (λ ts. AreWordTerms dag.old dag.new (form_of names.now) (names_of names.now) (flat_map (link_widths at_exit) (links_of links.now))
         (flat_map (link_words at_exit second) (links_of links.now)) (places_of ts.items) (links_loads at_exit (links_of links.now))
         (length links.now + 3 * links_loads at_exit (links_of links.now))) }
 {
+    let _typed = dag.nodes();
     let mut terms = Vec::new(alloc);
     for i in 0..links.len() {
         let part = part_of(links[i], second, at_exit);
@@ -171,7 +170,6 @@ pub fn link_terms(
 
 /// Constants of one width.
 fn blanks(alloc: Global, dag: &mut Dag, width: u8, count: usize) -> Result<Vec<Term>, AllocError>
-    requires typed { AreTyped dag.old }
     requires width { IsWidth width }
     ensures { IfOk result (λ ts. AreBlankTerms dag.old dag.new (replicate count width) 1 (places_of ts.items)) }
 {
@@ -193,10 +191,10 @@ fn width_of(named: Named) -> u8
 
 /// Constants of the widths of the words of a part.
 fn blank_part(alloc: Global, dag: &mut Dag, part: Part) -> Result<Vec<Term>, AllocError>
-    requires typed { AreTyped dag.old }
     requires range { IsRange part }
     ensures { IfOk result (λ ts. AreBlankTerms dag.old dag.new (part_widths part) 1 (places_of ts.items)) }
 {
+    let _typed = dag.nodes();
     match part {
         Part::Nothing => Ok(Vec::new(alloc)),
         Part::Word(named) => {
@@ -217,10 +215,10 @@ pub fn blank_terms(
     links: &[Link],
     second: bool,
 ) -> Result<Vec<Term>, AllocError>
-    requires typed { AreTyped dag.old }
     requires links { (form : Layout) × AreLinksOfSide second form links.now }
     ensures { IfOk result (λ ts. AreBlankTerms dag.old dag.new (flat_map (link_widths true) (links_of links.now)) (length links.now) (places_of ts.items)) }
 {
+    let _typed = dag.nodes();
     let mut terms = Vec::new(alloc);
     for i in 0..links.len() {
         let part = part_of(links[i], second, true);

@@ -5,8 +5,9 @@ ghost use Rattle.term_spec.specs.Terms.{HasWidth};
 ghost use Rattle.term_spec.specs.Passive.{Tells};
 ghost use Rattle.passify.specs.Bits.{Makes, TellsBy, TellsByBoth};
 
+use bil_ast::BinaryOp;
 use std::alloc::AllocError;
-use term_dag::{Dag, Node, Op, Term};
+use term_dag::{Dag, Node, Term};
 
 /// A bit that is always the same.
 pub fn constant(dag: &mut Dag, value: bool) -> Result<Term, AllocError>
@@ -38,7 +39,7 @@ pub fn both(dag: &mut Dag, left: Term, right: Term) -> Result<Term, AllocError>
     ensures { IfOk result (λ t. Makes dag.old dag.new 1 2 1 t.0 (TellsByBoth (λ p q. p && q) dag.old dag.new left.0 right.0 t.0)) }
 {
     let bit = dag.mk(Node::Binary {
-        op: Op::And,
+        op: BinaryOp::And,
         width: 1,
         left,
         right,
@@ -53,7 +54,7 @@ pub fn either(dag: &mut Dag, left: Term, right: Term) -> Result<Term, AllocError
     ensures { IfOk result (λ t. Makes dag.old dag.new 1 2 1 t.0 (TellsByBoth (λ p q. p || q) dag.old dag.new left.0 right.0 t.0)) }
 {
     let bit = dag.mk(Node::Binary {
-        op: Op::Or,
+        op: BinaryOp::Or,
         width: 1,
         left,
         right,

@@ -1,7 +1,7 @@
 //! Points where the call of a contract's function is stepped over.
 
 ghost use Rattle.std.specs.Prelude.{◌≡◌, ◌≤◌, ◌<◌, ◌+◌, true, IfOk, Contains, [], length, map};
-ghost use Rattle.term_spec.specs.Terms.{AreTyped, HasWidth, InRange, term_word};
+ghost use Rattle.term_spec.specs.Terms.{HasWidth, InRange, term_word};
 ghost use Rattle.term_spec.specs.Passive.{AreNames, Tells};
 ghost use Rattle.frame_terms.specs.PassiveFrames.{IsWalkable};
 ghost use Rattle.notes_value.specs.FrameViews.{contract_of};
@@ -82,7 +82,6 @@ fn gives(
     rest: Term,
     big: bool,
 ) -> Result<Term, AllocError>
-    requires typed { AreTyped dag.old }
     requires reads { (l : declared.NoteLine) → Contains lines.now l → IsReadable (form_of next.now.names.now) (expr_of l.says) }
     requires same { HaveSameForm next.now.names.now now.now.names.now }
     requires next { AreStateTerms dag.old next.now }
@@ -90,6 +89,7 @@ fn gives(
     requires rest { HasWidth dag.old 1 rest.0 }
     ensures { IfOk result (λ t. AreGiven dag.old dag.new rest.0 t.0 big next.now now.now (map note_line_of lines.now)) }
 {
+    let _typed = dag.nodes();
     let mut left = rest;
     for i in 0..lines.len() {
         let after = Now {
@@ -128,7 +128,6 @@ fn given(
     spans: &[Span],
     names: &Names,
 ) -> Result<Names, AllocError>
-    requires typed { AreTyped dag.old }
     requires registers { names.now.first + length names.now.registers.items ≤ 32 }
     requires flags { length names.now.flags.items ≤ 4 }
     requires spans { (s : _) → Contains spans.now s → IsSpan dag.old s }
@@ -136,7 +135,6 @@ fn given(
     ensures { IfOk result (λ n. IsGiftState dag.old dag.new part (contract_of contract.now) spans.now names.now n) }
 {
     let before = gift_names(alloc, dag, part, contract.registers, contract.flags, names)?;
-    let _typed = dag.nodes();
     let memory = taken(dag, spans, part, names.memory)?;
     let Names {
         first,

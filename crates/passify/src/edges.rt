@@ -1,7 +1,7 @@
 //! Edges as exits that are tried.
 
 ghost use Rattle.std.specs.Prelude.{◌≡◌, ◌≤◌, ◌<◌, ◌+◌, ◌*◌, ◌==◌, IfOk, Contains, [], length};
-ghost use Rattle.term_spec.specs.Terms.{AreTyped, HasWidth, term_word};
+ghost use Rattle.term_spec.specs.Terms.{HasWidth, term_word};
 ghost use Rattle.term_spec.specs.Passive.{Tells};
 ghost use Rattle.frame_terms.specs.PassiveFrames.{IsWalkable};
 ghost use Rattle.question_form.specs.FrameViews.{frame_unrolled_of};
@@ -18,17 +18,18 @@ use crate::bits::{both, constant, turned};
 use crate::exits::{asserts, judged, split};
 use crate::own::changed;
 use crate::sweep::{Sweep, arrive, fail, turn};
+use bil_ast::BinaryOp;
 use note_terms::Now;
 use question_form::{Aim, Edge, Unrolled};
 use std::alloc::{AllocError, Global};
-use term_dag::{Dag, Node, Op, Term};
+use term_dag::{Dag, Node, Term};
 
 /// The address of an edge: none stands for the value of the link register at entry.
 fn address_of(dag: &mut Dag, to: Option<u32>, link: Term) -> Result<Term, AllocError>
-    requires typed { AreTyped dag.old }
     requires link { HasWidth dag.old 32 link.0 }
     ensures { IfOk result (λ t. Makes dag.old dag.new 0 1 32 t.0 (λ x. term_word x dag.new t.0 ≡ edge_word to (term_word x dag.old link.0))) }
 {
+    let _typed = dag.nodes();
     match to {
         None => Ok(link),
         Some(address) => {
@@ -49,11 +50,11 @@ fn way(
     jumped: Term,
     same: Term,
 ) -> Result<Term, AllocError>
-    requires typed { AreTyped dag.old }
     requires jumped { HasWidth dag.old 1 jumped.0 }
     requires same { HasWidth dag.old 1 same.0 }
     ensures { IfOk result (λ t. Makes dag.old dag.new 1 4 1 t.0 (TellsWay dag.old dag.new falls jumps jumped.0 same.0 t.0)) }
 {
+    let _typed = dag.nodes();
     if falls {
         if jumps {
             return Ok(same);
@@ -192,7 +193,6 @@ fn along(
     next: Term,
     link: Term,
 ) -> Result<Term, AllocError>
-    requires typed { AreTyped dag.old }
     requires jumped { HasWidth dag.old 1 jumped.0 }
     requires next { HasWidth dag.old 32 next.0 }
     requires link { HasWidth dag.old 32 link.0 }
@@ -200,7 +200,7 @@ fn along(
 {
     let address = address_of(dag, edge.to, link)?;
     let same = dag.mk(Node::Binary {
-        op: Op::Equal,
+        op: BinaryOp::Equal,
         width: 32,
         left: next,
         right: address,

@@ -7,8 +7,9 @@ ghost use Rattle.term_spec.specs.Terms.{HasWidth, term_word};
 ghost use Rattle.term_spec.specs.Passive.{Tells};
 ghost use Rattle.passify.specs.Bits.{Makes};
 
+use bil_ast::BinaryOp;
 use std::alloc::AllocError;
-use term_dag::{Dag, Node, Op, Term};
+use term_dag::{Dag, Node, Term};
 
 /// The address that a point goes on to: that of its jump where the bit is 1, and else the one behind its row, which has so many bytes.
 pub fn next_address(
@@ -52,7 +53,7 @@ pub fn unaligned(dag: &mut Dag, narrow: bool, address: Term) -> Result<Term, All
         value: 0,
     })?;
     let bit = dag.mk(Node::Binary {
-        op: Op::NotEqual,
+        op: BinaryOp::NotEqual,
         width: hi + 1,
         left: low,
         right: zero,

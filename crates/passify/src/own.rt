@@ -1,7 +1,7 @@
 //! What a contract's frame may have changed where it is left.
 
 ghost use Rattle.std.specs.Prelude.{◌≡◌, ◌≤◌, ◌<◌, ◌+◌, ◌-◌, ◌*◌, ◌&&◌, ◌||◌, ◌==◌, not, IfOk, length};
-ghost use Rattle.term_spec.specs.Terms.{AreTyped, HasWidth, term_word};
+ghost use Rattle.term_spec.specs.Terms.{HasWidth, term_word};
 ghost use Rattle.term_spec.specs.Passive.{AreNames, Tells};
 ghost use Rattle.notes_value.specs.FrameViews.{contract_of};
 ghost use Rattle.term_names.specs.Choices.{AreWide, places};
@@ -13,9 +13,10 @@ ghost use Rattle.passify.specs.Changes.{TellsAmong, TellsChanged};
 ghost use Rattle.passify.specs.Sweeps.{bits_of, terms_of};
 
 use crate::bits::{constant, either};
+use bil_ast::BinaryOp;
 use notes_value::Contract;
 use std::alloc::AllocError;
-use term_dag::{Dag, Node, Op, Term};
+use term_dag::{Dag, Node, Term};
 use term_names::Names;
 
 /// Whether a number below 32 is in a set that has a bit for each.
@@ -34,7 +35,6 @@ fn differs(
     right: Term,
     before: Term,
 ) -> Result<Term, AllocError>
-    requires typed { AreTyped dag.old }
     requires some { 1 ≤ width }
     requires few { width ≤ 64 }
     requires left { HasWidth dag.old width left.0 }
@@ -44,7 +44,7 @@ fn differs(
         Tells dag.new x t.0 (p || not (term_word x dag.old left.0 == term_word x dag.old right.0)))) }
 {
     let bit = dag.mk(Node::Binary {
-        op: Op::NotEqual,
+        op: BinaryOp::NotEqual,
         width,
         left,
         right,
@@ -63,7 +63,6 @@ fn changed_among(
     next: &[Term],
     before: Term,
 ) -> Result<Term, AllocError>
-    requires typed { AreTyped dag.old }
     requires some { 1 ≤ width }
     requires wide { width ≤ 64 }
     requires few { first + length entry.now ≤ 32 }
@@ -74,6 +73,7 @@ fn changed_among(
     ensures { IfOk result (λ t. Makes dag.old dag.new ((width + 1) * length entry.now) (4 * length entry.now) 1 t.0
         (TellsAmong dag.old dag.new set first (places entry.now) (places next.now) (length entry.now) before.0 t.0)) }
 {
+    let _typed = dag.nodes();
     let mut some = before;
     for i in 0..entry.len() {
         if is_in(set, first + i as u8) {
@@ -91,7 +91,6 @@ pub fn changed(
     entry: &Names,
     next: &Names,
 ) -> Result<Term, AllocError>
-    requires typed { AreTyped dag.old }
     requires registers { entry.now.first + length entry.now.registers.items ≤ 32 }
     requires flags { length entry.now.flags.items ≤ 4 }
     requires same { HaveSameForm entry.now next.now }

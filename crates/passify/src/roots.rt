@@ -1,7 +1,7 @@
 //! Where segments begin.
 
 ghost use Rattle.std.specs.Prelude.{◌≡◌, ◌<◌, ◌+◌, IfOk, None, [], length, replicate, slice_index_or, slice_range};
-ghost use Rattle.term_spec.specs.Terms.{AreTyped, HasWidth};
+ghost use Rattle.term_spec.specs.Terms.{HasWidth};
 ghost use Rattle.term_spec.specs.Passive.{AreNames};
 ghost use Rattle.start_value.specs.Starts.{layout_of};
 ghost use Rattle.frame_terms.specs.PassiveFrames.{IsWalkable, inputs_of};
@@ -77,7 +77,6 @@ fn own_spans(
     pc: Term,
     yes: Term,
 ) -> Result<Vec<Span>, AllocError>
-    requires typed { AreTyped dag.old }
     requires walkable { IsWalkable (frame_unrolled_of unrolled.now) }
     requires form { AreFor (inputs_of (frame_unrolled_of unrolled.now)) entry.now }
     requires names { AreNames (form_of entry.now) dag.old (names_of entry.now) }
@@ -85,6 +84,7 @@ fn own_spans(
     requires yes { HasWidth dag.old 1 yes.0 }
     ensures { IfOk result (λ spans. AreOwnSpans unrolled.now dag.old dag.new entry.now pc.0 spans.items) }
 {
+    let _typed = dag.nodes();
     let Some(own) = unrolled.own else {
         let none = Vec::new(alloc);
         return Ok(none);
@@ -144,7 +144,6 @@ fn assumed(
     entry: &Now,
     yes: Term,
 ) -> Result<Term, AllocError>
-    requires typed { AreTyped dag.old }
     requires places { (i : _) → i < length index.now → (slice_index_or index.now i (0, 0)).1 < length unrolled.now.notes.now.asserts.items }
     requires reads { AreRead now.now.names.now (assumed_lines unrolled.now index.now) }
     requires same { HaveSameForm now.now.names.now entry.now.names.now }
@@ -155,6 +154,7 @@ fn assumed(
     requires yes { HasWidth dag.old 1 yes.0 }
     ensures { IfOk result (λ t. AreAssumed dag.old dag.new unrolled.now.big (assumed_lines unrolled.now index.now) now.now entry.now yes.0 t.0) }
 {
+    let _typed = dag.nodes();
     let mut all = yes;
     for i in 0..index.len() {
         let assert = &unrolled.notes.asserts[index[i].1];

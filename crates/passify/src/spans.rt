@@ -1,7 +1,7 @@
 //! Bytes from addresses on: those that are stored, and those that a contract's function may write.
 
 ghost use Rattle.std.specs.Prelude.{◌≡◌, ◌≤◌, ◌<◌, ◌^◌, IfOk, Contains, length, map};
-ghost use Rattle.term_spec.specs.Terms.{AreTyped, HasMemory, HasWidth};
+ghost use Rattle.term_spec.specs.Terms.{HasMemory, HasWidth};
 ghost use Rattle.walk_spec.specs.Unrolling.{IsReadable};
 ghost use Rattle.notes_value.specs.FrameViews.{writes_of};
 ghost use Rattle.notes_value.specs.Views.{expr_of};
@@ -45,13 +45,13 @@ pub fn spans(
     yes: Term,
     big: bool,
 ) -> Result<Vec<Span>, AllocError>
-    requires typed { AreTyped dag.old }
     requires reads { (w : declared.Writes) → Contains writes.now w → IsReadable (form_of now.now.names.now) (expr_of w.says) }
     requires some { (w : declared.Writes) → Contains writes.now w → 1 ≤ w.count }
     requires now { AreStateTerms dag.old now.now }
     requires yes { HasWidth dag.old 1 yes.0 }
     ensures { IfOk result (λ spans. AreSpans dag.old dag.new big now.now yes.0 (map writes_of writes.now) spans.items) }
 {
+    let _before = dag.nodes();
     let mut spans = Vec::with_capacity(alloc, writes.len())?;
     for i in 0..writes.len() {
         let address = word(dag, &writes[i].says, now, now, big)?;
@@ -63,11 +63,11 @@ pub fn spans(
 
 /// A memory with the bytes of spans as a part has them.
 pub fn taken(dag: &mut Dag, spans: &[Span], part: u32, memory: Term) -> Result<Term, AllocError>
-    requires typed { AreTyped dag.old }
     requires spans { (s : _) → Contains spans.now s → IsSpan dag.old s }
     requires memory { HasMemory dag.old memory.0 }
     ensures { IfOk result (λ t. IsTaken dag.old dag.new spans.now part memory.0 t.0) }
 {
+    let _typed = dag.nodes();
     let mut memory = memory;
     for i in 0..spans.len() {
         memory = dag.mk(Node::Take {

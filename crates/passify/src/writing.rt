@@ -3,7 +3,7 @@
 ghost use Rattle.std.specs.Prelude.{◌≤◌, ◌<◌, ◌+◌, ◌*◌, ◌^◌, ◌&&◌, ◌||◌, Bool, nat_le, IfOk, Contains, length, map};
 ghost use Rattle.std.specs.List.{list_any};
 ghost use Rattle.word_spec.specs.Memory.{span};
-ghost use Rattle.term_spec.specs.Terms.{AreTyped, HasWidth, term_word};
+ghost use Rattle.term_spec.specs.Terms.{HasWidth, term_word};
 ghost use Rattle.walk_spec.specs.Unrolled.{is_in};
 ghost use Rattle.walk_spec.specs.Unrolling.{AreRuns};
 ghost use Rattle.term_spec.specs.Passive.{Tells};
@@ -14,18 +14,19 @@ ghost use Rattle.passify.specs.Spans.{EscapesByte, EscapesSome, IsAway, IsRefuse
 
 use crate::bits::{both, constant, either};
 use crate::spans::Span;
+use bil_ast::BinaryOp;
 use question_form::Unrolled;
 use std::alloc::AllocError;
-use term_dag::{Dag, Node, Op, Term};
+use term_dag::{Dag, Node, Term};
 
 /// Whether some byte of a run, both ends included, is stored by one store: its address is no further from the run's beginning than the store's bytes reach.
 fn touches(dag: &mut Dag, stored: Span, low: u32, high: u32) -> Result<Term, AllocError>
-    requires typed { AreTyped dag.old }
     requires store { IsSpan dag.old stored }
     requires run { low ≤ high }
     ensures { IfOk result (λ t. Makes dag.old dag.new 97 8 1 t.0 (λ x. (g : Bool) → Tells dag.old x stored.guard.0 g →
         Tells dag.new x t.0 (g && list_any (λ b. nat_le low b && nat_le b high) (span (term_word x dag.old stored.address.0) stored.bytes)))) }
 {
+    let _typed = dag.nodes();
     let before = stored.bytes - 1;
     let reach = u64::from(high - low) + u64::from(before);
     if reach >= 4_294_967_295 {
@@ -36,7 +37,7 @@ fn touches(dag: &mut Dag, stored: Span, low: u32, high: u32) -> Result<Term, All
         value: u64::from(low.wrapping_sub(before)),
     })?;
     let distance = dag.mk(Node::Binary {
-        op: Op::Minus,
+        op: BinaryOp::Minus,
         width: 32,
         left: stored.address,
         right: start,
@@ -46,7 +47,7 @@ fn touches(dag: &mut Dag, stored: Span, low: u32, high: u32) -> Result<Term, All
         value: reach,
     })?;
     let near = dag.mk(Node::Binary {
-        op: Op::LessEqual,
+        op: BinaryOp::LessEqual,
         width: 32,
         left: distance,
         right: reach,
@@ -62,7 +63,6 @@ fn touches_some(
     kept: &[(u32, u32)],
     before: Term,
 ) -> Result<Term, AllocError>
-    requires typed { AreTyped dag.old }
     requires store { IsSpan dag.old stored }
     requires runs { AreRuns (map kept_of kept.now) }
     requires before { HasWidth dag.old 1 before.0 }
@@ -70,6 +70,7 @@ fn touches_some(
         Tells dag.old x stored.guard.0 g →
         Tells dag.new x t.0 (p || (g && list_any (is_in (map kept_of kept.now)) (span (term_word x dag.old stored.address.0) stored.bytes))))) }
 {
+    let _typed = dag.nodes();
     let mut some = before;
     for i in 0..kept.len() {
         let bit = touches(dag, stored, kept[i].0, kept[i].1)?;
@@ -80,11 +81,11 @@ fn touches_some(
 
 /// Whether some kept byte is in a span. The runs of kept bytes have both ends included.
 fn writes_kept(dag: &mut Dag, spans: &[Span], kept: &[(u32, u32)]) -> Result<Term, AllocError>
-    requires typed { AreTyped dag.old }
     requires spans { (s : _) → Contains spans.now s → IsSpan dag.old s }
     requires runs { AreRuns (map kept_of kept.now) }
     ensures { IfOk result (λ t. TellsKept dag.old dag.new spans.now (map kept_of kept.now) t.0) }
 {
+    let _typed = dag.nodes();
     let mut some = constant(dag, false)?;
     for i in 0..spans.len() {
         some = touches_some(dag, spans[i], kept, some)?;
@@ -94,12 +95,12 @@ fn writes_kept(dag: &mut Dag, spans: &[Span], kept: &[(u32, u32)]) -> Result<Ter
 
 /// Whether a bit is 1, and an address is in no span of what may be written.
 fn away(dag: &mut Dag, at: Term, own: &[Span], rest: Term) -> Result<Term, AllocError>
-    requires typed { AreTyped dag.old }
     requires own { (s : _) → Contains own.now s → IsSpan dag.old s }
     requires at { HasWidth dag.old 32 at.0 }
     requires rest { HasWidth dag.old 1 rest.0 }
     ensures { IfOk result (λ t. Makes dag.old dag.new (97 * length own.now) (7 * length own.now) 1 t.0 (IsAway dag.old dag.new at.0 rest.0 own.now t.0)) }
 {
+    let _typed = dag.nodes();
     let mut left = rest;
     for i in 0..own.len() {
         let count = dag.keep(Node::Constant {
@@ -107,13 +108,13 @@ fn away(dag: &mut Dag, at: Term, own: &[Span], rest: Term) -> Result<Term, Alloc
             value: u64::from(own[i].bytes),
         })?;
         let distance = dag.mk(Node::Binary {
-            op: Op::Minus,
+            op: BinaryOp::Minus,
             width: 32,
             left: at,
             right: own[i].address,
         })?;
         let past = dag.mk(Node::Binary {
-            op: Op::LessEqual,
+            op: BinaryOp::LessEqual,
             width: 32,
             left: count,
             right: distance,
@@ -131,19 +132,19 @@ fn escapes(
     own: &[Span],
     before: Term,
 ) -> Result<Term, AllocError>
-    requires typed { AreTyped dag.old }
     requires store { IsSpan dag.old stored }
     requires own { (s : _) → Contains own.now s → IsSpan dag.old s }
     requires before { HasWidth dag.old 1 before.0 }
     ensures { IfOk result (λ t. Makes dag.old dag.new (65 + 97 * length own.now) (5 + 7 * length own.now) 1 t.0
         (EscapesByte dag.old dag.new stored number before.0 own.now t.0)) }
 {
+    let _typed = dag.nodes();
     let number = dag.keep(Node::Constant {
         width: 32,
         value: u64::from(number),
     })?;
     let at = dag.mk(Node::Binary {
-        op: Op::Plus,
+        op: BinaryOp::Plus,
         width: 32,
         left: stored.address,
         right: number,
@@ -155,13 +156,13 @@ fn escapes(
 
 /// Whether a bit is 1, or some byte of a span is in no span of what may be written.
 fn escapes_some(dag: &mut Dag, stored: Span, own: &[Span], before: Term) -> Result<Term, AllocError>
-    requires typed { AreTyped dag.old }
     requires store { IsSpan dag.old stored }
     requires own { (s : _) → Contains own.now s → IsSpan dag.old s }
     requires before { HasWidth dag.old 1 before.0 }
     ensures { IfOk result (λ t. Makes dag.old dag.new (1 + 162 * (length own.now * stored.bytes)) (2 + 12 * (length own.now * stored.bytes)) 1 t.0
         (EscapesSome dag.old dag.new stored before.0 own.now t.0)) }
 {
+    let _typed = dag.nodes();
     if own.is_empty() {
         let some = either(dag, before, stored.guard)?;
         return Ok(some);
@@ -175,12 +176,12 @@ fn escapes_some(dag: &mut Dag, stored: Span, own: &[Span], before: Term) -> Resu
 
 /// Whether a bit is 1, or some byte of spans is in no span of what may be written.
 fn outside(dag: &mut Dag, spans: &[Span], own: &[Span], before: Term) -> Result<Term, AllocError>
-    requires typed { AreTyped dag.old }
     requires spans { (s : _) → Contains spans.now s → IsSpan dag.old s }
     requires own { (s : _) → Contains own.now s → IsSpan dag.old s }
     requires before { HasWidth dag.old 1 before.0 }
     ensures { IfOk result (λ t. TellsOutside dag.old dag.new spans.now own.now before.0 t.0) }
 {
+    let _typed = dag.nodes();
     let mut some = before;
     for i in 0..spans.len() {
         some = escapes_some(dag, spans[i], own, some)?;
@@ -195,7 +196,6 @@ pub fn refused(
     spans: &[Span],
     own: &[Span],
 ) -> Result<Term, AllocError>
-    requires typed { AreTyped dag.old }
     requires spans { (s : _) → Contains spans.now s → IsSpan dag.old s }
     requires own { (s : _) → Contains own.now s → IsSpan dag.old s }
     requires runs { AreRuns (frame_unrolled_of unrolled.now).kept }

@@ -6,7 +6,8 @@ ghost use Rattle.bilv_spec.specs.SmtLib.{Atom};
 ghost use Rattle.word_spec.specs.Memory.{endian, place};
 ghost use Rattle.term_spec.specs.Terms.{IsBytes, IsWidth};
 ghost use Rattle.start_value.specs.Starts.{layout_of};
-ghost use Rattle.term_dag.specs.Nodes.{node_of, op_of};
+ghost use Rattle.bil_ast.specs.Views.{binary_of};
+ghost use Rattle.term_dag.specs.Nodes.{node_of};
 ghost use Rattle.smtlib_print.specs.Commands as commands;
 ghost use Rattle.smtlib_print.specs.Printable.{HasSymbols, IsCompound, IsPrintable};
 ghost use Rattle.smtlib_print.specs.Written.{three, two, written};
@@ -14,9 +15,10 @@ ghost use Rattle.smtlib_print.specs.Written.{three, two, written};
 use crate::words::{
     ones, push_address, push_byte, push_constant, push_flag_in, push_memory_in, push_register_in,
 };
+use bil_ast::BinaryOp;
 use start_value::Layout;
 use std::alloc::AllocError;
-use term_dag::{Node, Op, Term};
+use term_dag::{Node, Term};
 
 /// Appends the application of an operator to two terms.
 fn push_applied(out: &mut String, operator: &str, left: Term, right: Term) -> Result<(), AllocError>
@@ -71,34 +73,34 @@ fn push_different(out: &mut String, left: Term, right: Term) -> Result<(), Alloc
 /// Appends the term of an operator.
 fn push_operation(
     out: &mut String,
-    op: Op,
+    op: BinaryOp,
     width: u8,
     left: Term,
     right: Term,
 ) -> Result<(), AllocError>
     requires { IsWidth width }
-    ensures { OnOk result (string_bytes out.new ≡ string_bytes out.old ++ written (commands.operation (op_of op) width left.0 right.0)) }
+    ensures { OnOk result (string_bytes out.new ≡ string_bytes out.old ++ written (commands.operation (binary_of op) width left.0 right.0)) }
 {
     match op {
-        Op::Plus => push_applied(out, "bvadd", left, right),
-        Op::Minus => push_applied(out, "bvsub", left, right),
-        Op::Times => push_applied(out, "bvmul", left, right),
-        Op::Divide => push_applied(out, "bvudiv", left, right),
-        Op::SignedDivide => push_signed_division(out, width, left, right),
-        Op::Modulo => push_applied(out, "bvurem", left, right),
-        Op::SignedModulo => push_applied(out, "bvsrem", left, right),
-        Op::And => push_applied(out, "bvand", left, right),
-        Op::Or => push_applied(out, "bvor", left, right),
-        Op::Xor => push_applied(out, "bvxor", left, right),
-        Op::ShiftLeft => push_applied(out, "bvshl", left, right),
-        Op::ShiftRight => push_applied(out, "bvlshr", left, right),
-        Op::ShiftSigned => push_applied(out, "bvashr", left, right),
-        Op::Equal => push_compared(out, "=", left, right),
-        Op::NotEqual => push_different(out, left, right),
-        Op::Less => push_compared(out, "bvult", left, right),
-        Op::LessEqual => push_compared(out, "bvule", left, right),
-        Op::SignedLess => push_compared(out, "bvslt", left, right),
-        Op::SignedLessEqual => push_compared(out, "bvsle", left, right),
+        BinaryOp::Plus => push_applied(out, "bvadd", left, right),
+        BinaryOp::Minus => push_applied(out, "bvsub", left, right),
+        BinaryOp::Times => push_applied(out, "bvmul", left, right),
+        BinaryOp::Divide => push_applied(out, "bvudiv", left, right),
+        BinaryOp::SignedDivide => push_signed_division(out, width, left, right),
+        BinaryOp::Modulo => push_applied(out, "bvurem", left, right),
+        BinaryOp::SignedModulo => push_applied(out, "bvsrem", left, right),
+        BinaryOp::And => push_applied(out, "bvand", left, right),
+        BinaryOp::Or => push_applied(out, "bvor", left, right),
+        BinaryOp::Xor => push_applied(out, "bvxor", left, right),
+        BinaryOp::ShiftLeft => push_applied(out, "bvshl", left, right),
+        BinaryOp::ShiftRight => push_applied(out, "bvlshr", left, right),
+        BinaryOp::ShiftSigned => push_applied(out, "bvashr", left, right),
+        BinaryOp::Equal => push_compared(out, "=", left, right),
+        BinaryOp::NotEqual => push_different(out, left, right),
+        BinaryOp::Less => push_compared(out, "bvult", left, right),
+        BinaryOp::LessEqual => push_compared(out, "bvule", left, right),
+        BinaryOp::SignedLess => push_compared(out, "bvslt", left, right),
+        BinaryOp::SignedLessEqual => push_compared(out, "bvsle", left, right),
     }
 }
 

@@ -4,14 +4,15 @@ use Rattle.machine_spec.specs.Bil as bil
 use Rattle.word_spec.specs.Memory as memory
 use Rattle.term_spec.specs.Terms.{TermNode, RegisterNode, FlagNode, ChoiceNode, BaseNode, MemoryNode, ConstantNode, BinaryNode, NotNode, SelectNode, ExtractNode, ConcatNode, ExtendNode, LoadNode, StoreNode, JoinNode, TakeNode}
 use Rattle.term_dag.specs.declared.nodes.Term.{Term}
-use Rattle.term_dag.specs.declared.nodes.Op.{Op}
-use Rattle.term_dag.specs.declared.nodes.Op.TheVariants as op
+use Rattle.bil_ast.specs.declared.names.BinaryOp.{BinaryOp}
+use Rattle.bil_ast.specs.declared.names.BinaryOp.TheVariants as op
 use Rattle.term_dag.specs.declared.nodes.Node.{Node}
 use Rattle.term_dag.specs.declared.nodes.Node.TheVariants as node
 use Rattle.term_dag.specs.contracts.nodes.NodePartialEq.TheImpl.{eq-value}
-use Rattle.term_dag.specs.Nodes.{op_of, node_of}
+use Rattle.bil_ast.specs.Views.{binary_of}
+use Rattle.term_dag.specs.Nodes.{node_of}
 
-same_binary : (o p : Op) (w v : ℕ) (a b c d : Term) → (eq-value).it (node.Binary o w a b) (node.Binary p v c d) ≡ true →
+same_binary : (o p : BinaryOp) (w v : ℕ) (a b c d : Term) → (eq-value).it (node.Binary o w a b) (node.Binary p v c d) ≡ true →
     node.Binary o w a b ≡ node.Binary p v c d
 same_binary op.Plus p w v a b c d h = search rules
 same_binary op.Minus p w v a b c d h = search rules
@@ -33,7 +34,7 @@ same_binary op.LessEqual p w v a b c d h = search rules
 same_binary op.SignedLess p w v a b c d h = search rules
 same_binary op.SignedLessEqual p w v a b c d h = search rules
 
-same_as_binary : (o : Op) (w : ℕ) (a b : Term) (y : Node) → (eq-value).it (node.Binary o w a b) y ≡ true → node.Binary o w a b ≡ y
+same_as_binary : (o : BinaryOp) (w : ℕ) (a b : Term) (y : Node) → (eq-value).it (node.Binary o w a b) y ≡ true → node.Binary o w a b ≡ y
 same_as_binary o w a b (node.Binary p v c d) h = same_binary o p w v a b c d h
 same_as_binary o w a b (node.Register k r) h = search rules
 same_as_binary o w a b (node.Flag k f) h = search rules
@@ -88,7 +89,7 @@ itself (node.Join c a b) = search rules
 itself (node.Take n m a p) = search rules
 
 -- the operator that is seen so
-abbrev back_op : bil.BinaryOp → Op
+abbrev back_op : bil.BinaryOp → BinaryOp
 back_op bil.Plus = op.Plus
 back_op bil.Minus = op.Minus
 back_op bil.Times = op.Times
@@ -109,7 +110,7 @@ back_op bil.LessEqual = op.LessEqual
 back_op bil.SignedLess = op.SignedLess
 back_op bil.SignedLessEqual = op.SignedLessEqual
 
-back_op_of : (o : Op) → back_op (op_of o) ≡ o
+back_op_of : (o : BinaryOp) → back_op (binary_of o) ≡ o
 back_op_of op.Plus = refl
 back_op_of op.Minus = refl
 back_op_of op.Times = refl

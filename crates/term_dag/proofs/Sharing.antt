@@ -9,9 +9,10 @@ use Rattle.machine_spec.specs.Bil.{And}
 use Rattle.term_spec.specs.Terms.{TermReading, TermNode, ConstantNode, BinaryNode, NotNode, word_value, term_word, node_value, values_from, term_value, width_of, node_at, HasWidth, IsTypedOver, AreTyped, value_at, own_gates, own_loads, own_stores, own_joins}
 use Rattle.term_dag.specs.declared.nodes.Node.{Node}
 use Rattle.term_dag.specs.declared.nodes.Term.{Term}
-use Rattle.term_dag.specs.declared.nodes.Op.{Op}
+use Rattle.bil_ast.specs.declared.names.BinaryOp.{BinaryOp}
 use Rattle.term_dag.specs.declared.folds.Folded.TheVariants.{Old, New, Onto, Unless}
-use Rattle.term_dag.specs.Nodes.{IsInput, op_of, node_of, nodes_of}
+use Rattle.bil_ast.specs.Views.{binary_of}
+use Rattle.term_dag.specs.Nodes.{IsInput, node_of, nodes_of}
 use Rattle.term_dag.specs.Made.{Extends, IsWithinCost, IsMade, AreDistinct, IsInterned}
 use Rattle.term_dag.specs.Folds.{IsFold}
 use Rattle.term_dag.proofs.ListLaws.{keeps, keeps_node, typed_push, by_node, same, has_width_more, longer}
@@ -141,15 +142,15 @@ made_new old new n m t f k = record {
 }
 
 -- the operator between a term and a constant is typed over the list that has the constant
-pub onto_typed : (old mid : List TermNode) (n : TermNode) (o : Op) (w c : ℕ) (t : _) (k : ℕ) → IsFold old n (Onto o w t c) →
+pub onto_typed : (old mid : List TermNode) (n : TermNode) (o : BinaryOp) (w c : ℕ) (t : _) (k : ℕ) → IsFold old n (Onto o w t c) →
     IsInterned old mid (ConstantNode w c) k →
-    IsTypedOver mid (BinaryNode (op_of o) w t.0 k)
+    IsTypedOver mid (BinaryNode (binary_of o) w t.0 k)
 onto_typed old mid n o w c t k f i = (f.some, kept_width old mid i.extends w t.0 f.first, (i.within, ap width_of i.stored))
 
 -- that operator
-pub made_onto : (old mid new : List TermNode) (n : TermNode) (o : Op) (w c : ℕ) (t : _) (k r : ℕ) → IsFold old n (Onto o w t c) →
+pub made_onto : (old mid new : List TermNode) (n : TermNode) (o : BinaryOp) (w c : ℕ) (t : _) (k r : ℕ) → IsFold old n (Onto o w t c) →
     IsInterned old mid (ConstantNode w c) k →
-    IsInterned mid new (BinaryNode (op_of o) w t.0 k) r → IsMade old new n r
+    IsInterned mid new (BinaryNode (binary_of o) w t.0 k) r → IsMade old new n r
 made_onto old mid new n o w c t k r f i j =
     let e = both_extend old mid new i.extends j.extends in
     record {
@@ -160,8 +161,8 @@ made_onto old mid new n o w c t k r f i j =
       width = ap width_of j.stored ∙ f.width;
       value = λ x g.
           j.value x
-          ∙ ap (λ (z : _). node_value x (z ∷ value_at (values_from x [] mid) k ∷ []) (BinaryNode (op_of o) w 0 1)) (i.keeps x t.0 f.first.0)
-          ∙ ap (λ (z : _). node_value x (term_value x old t.0 ∷ z ∷ []) (BinaryNode (op_of o) w 0 1)) (i.value x)
+          ∙ ap (λ (z : _). node_value x (z ∷ value_at (values_from x [] mid) k ∷ []) (BinaryNode (binary_of o) w 0 1)) (i.keeps x t.0 f.first.0)
+          ∙ ap (λ (z : _). node_value x (term_value x old t.0 ∷ z ∷ []) (BinaryNode (binary_of o) w 0 1)) (i.value x)
           ∙ f.value x g;
       few = omega (arith, i.few, j.few);
       cost = record {
@@ -244,8 +245,8 @@ pub made_by_node : (old view new : List TermNode) (n : TermNode) (m : Node) (t :
     IsMade old new n t
 made_by_node old view new n m t e f k = made_new old new n m t (subst (λ (ns : List TermNode). IsFold ns n (New m)) e f) k
 
-pub made_by_onto : (old view mid new : List TermNode) (n : TermNode) (o : Op) (w c : ℕ) (t : _) (k r : ℕ) → view ≡ old → IsFold view n (Onto o w t c) →
-    IsInterned old mid (ConstantNode w c) k → IsInterned mid new (BinaryNode (op_of o) w t.0 k) r → IsMade old new n r
+pub made_by_onto : (old view mid new : List TermNode) (n : TermNode) (o : BinaryOp) (w c : ℕ) (t : _) (k r : ℕ) → view ≡ old → IsFold view n (Onto o w t c) →
+    IsInterned old mid (ConstantNode w c) k → IsInterned mid new (BinaryNode (binary_of o) w t.0 k) r → IsMade old new n r
 made_by_onto old view mid new n o w c t k r e f i j = made_onto old mid new n o w c t k r (subst (λ (ns : List TermNode). IsFold ns n (Onto o w t c)) e f) i j
 
 pub made_by_unless : (old view mid new : List TermNode) (n : TermNode) (a b k p q : Term) (r : ℕ) → view ≡ old → IsFold view n (Unless a b) →

@@ -10,7 +10,8 @@ use Rattle.term_dag.specs.declared.folds.Folded.{Folded}
 use Rattle.term_dag.specs.declared.folds.Folded.TheVariants.{Old, New, Onto, Unless}
 use Rattle.term_dag.specs.declared.conditions.Literal.{Literal}
 use Rattle.term_dag.specs.declared.conditions.Cube.{Cube}
-use Rattle.term_dag.specs.Nodes.{IsInput, op_of, node_of}
+use Rattle.bil_ast.specs.Views.{binary_of}
+use Rattle.term_dag.specs.Nodes.{IsInput, node_of}
 
 -- the value of a node over the terms of a list
 abbrev pub value_over : List TermNode → TermNode → TermReading → TermValue
@@ -54,7 +55,7 @@ pub record IsUnlessFor (ns : List TermNode) (n : TermNode) (a b : ℕ) : Type 0 
 abbrev pub IsFold : List TermNode → TermNode → Folded → Type 0
 IsFold ns n (Old t) = IsTermFor ns n t.0
 IsFold ns n (New m) = IsNodeFor ns n (node_of m)
-IsFold ns n (Onto o w t c) = IsOntoFor ns n (op_of o) w t.0 c
+IsFold ns n (Onto o w t c) = IsOntoFor ns n (binary_of o) w t.0 c
 IsFold ns n (Unless a b) = IsUnlessFor ns n a.0 b.0
 
 -- a word of a width: a term that has a value
@@ -94,7 +95,7 @@ pub record IsUnlessWord (ns : List TermNode) (w : ℕ) (f : TermReading → ℕ)
 abbrev pub IsWordFold : List TermNode → (w : ℕ) → (f : TermReading → ℕ) → (g : ℕ) → Folded → Type 0
 IsWordFold ns w f g (Old t) = IsTermWord ns w f t.0
 IsWordFold ns w f g (New m) = IsNodeWord ns w f g (node_of m)
-IsWordFold ns w f g (Onto o k t c) = IsOntoWord ns w f g (op_of o) k t.0 c
+IsWordFold ns w f g (Onto o k t c) = IsOntoWord ns w f g (binary_of o) k t.0 c
 IsWordFold ns w f g (Unless a b) = IsUnlessWord ns w f g a.0 b.0
 
 -- a term is a constant

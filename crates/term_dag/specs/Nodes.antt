@@ -1,35 +1,11 @@
 -- The nodes of the code as those of the definitions, and which of them are inputs.
 use Rattle.std.specs.Prelude.{ℕ, List, map, slice_index_or}
-use Rattle.machine_spec.specs.Bil as bil
+use Rattle.bil_ast.specs.Views.{binary_of}
 use Rattle.word_spec.specs.Memory.{endian}
 use Rattle.term_spec.specs.Terms.{TermNode, RegisterNode, FlagNode, ChoiceNode, BaseNode, MemoryNode, ConstantNode, BinaryNode, NotNode, SelectNode, ExtractNode, ConcatNode, ExtendNode, LoadNode, StoreNode, JoinNode, TakeNode}
 use Rattle.term_dag.specs.declared.nodes.Term.{Term}
-use Rattle.term_dag.specs.declared.nodes.Op.{Op}
-use Rattle.term_dag.specs.declared.nodes.Op.TheVariants as op
 use Rattle.term_dag.specs.declared.nodes.Node.{Node}
 use Rattle.term_dag.specs.declared.nodes.Node.TheVariants as node
-
--- an operator
-abbrev pub op_of : Op → bil.BinaryOp
-op_of op.Plus = bil.Plus
-op_of op.Minus = bil.Minus
-op_of op.Times = bil.Times
-op_of op.Divide = bil.Divide
-op_of op.SignedDivide = bil.SignedDivide
-op_of op.Modulo = bil.Modulo
-op_of op.SignedModulo = bil.SignedModulo
-op_of op.And = bil.And
-op_of op.Or = bil.Or
-op_of op.Xor = bil.Xor
-op_of op.ShiftLeft = bil.ShiftLeft
-op_of op.ShiftRight = bil.ShiftRight
-op_of op.ShiftSigned = bil.ShiftSigned
-op_of op.Equal = bil.Equal
-op_of op.NotEqual = bil.NotEqual
-op_of op.Less = bil.Less
-op_of op.LessEqual = bil.LessEqual
-op_of op.SignedLess = bil.SignedLess
-op_of op.SignedLessEqual = bil.SignedLessEqual
 
 -- a node
 abbrev pub node_of : Node → TermNode
@@ -39,7 +15,7 @@ node_of (node.Choice i) = ChoiceNode i
 node_of (node.Base p j) = BaseNode p j
 node_of (node.Memory p) = MemoryNode p
 node_of (node.Constant w v) = ConstantNode w v
-node_of (node.Binary o w a b) = BinaryNode (op_of o) w a.0 b.0
+node_of (node.Binary o w a b) = BinaryNode (binary_of o) w a.0 b.0
 node_of (node.Not w a) = NotNode w a.0
 node_of (node.Select w c a b) = SelectNode w c.0 a.0 b.0
 node_of (node.Extract hi lo a) = ExtractNode hi lo a.0

@@ -4,14 +4,17 @@ ghost use Rattle.std.specs.Prelude.{◌≡◌, ℕ, ◌+◌, ◌<◌, ◌≤◌,
 ghost use Rattle.word_spec.specs.Words as words;
 ghost use Rattle.machine_spec.specs.BilTyping.{result_width};
 ghost use Rattle.machine_spec.specs.BilCounts.{op_weight};
-ghost use Rattle.term_spec.specs.Terms.{TermReading, InRange, operate, term_word, HasWidth, AreTyped};
-ghost use Rattle.term_dag.specs.Nodes.{nodes_of, op_of};
+ghost use Rattle.term_spec.specs.Terms.{TermReading, InRange, operate, term_word, HasWidth};
+ghost use Rattle.bil_ast.specs.Views.{binary_of};
+ghost use Rattle.term_dag.specs.Lists.{terms};
 ghost use Rattle.term_dag.specs.Made.{Separates};
 ghost use Rattle.term_dag.specs.Folds.{AreBits, IsCube, IsLiteral, IsPair, IsWordFold, cube_value, literal_value};
 
 use crate::folds::{Folded, look};
 use crate::operators::{ordered, truth};
-use crate::{Node, Op, Term};
+use crate::typed::Nodes;
+use crate::{Node, Term};
+use bil_ast::BinaryOp;
 
 /// A bit, or its negation.
 #[derive(Clone, Copy)]
@@ -44,10 +47,9 @@ fn is_opposite(one: Literal, other: Literal) -> bool
 }
 
 /// A bit as a literal.
-fn literal_of(nodes: &[Node], term: Term) -> Literal
-    requires typed { AreTyped (nodes_of nodes.now) }
-    requires place { HasWidth (nodes_of nodes.now) 1 term.0 }
-    ensures { IsLiteral (nodes_of nodes.now) term.0 result }
+fn literal_of(nodes: &Nodes, term: Term) -> Literal
+    requires place { HasWidth (terms nodes.now) 1 term.0 }
+    ensures { IsLiteral (terms nodes.now) term.0 result }
 {
     match look(nodes, term) {
         Node::Not { term: inner, .. } => Literal {
@@ -62,11 +64,10 @@ fn literal_of(nodes: &[Node], term: Term) -> Literal
 }
 
 /// A conjunction of two bits.
-fn cube_of(nodes: &[Node], left: Term, right: Term) -> Cube
-    requires typed { AreTyped (nodes_of nodes.now) }
-    requires left { HasWidth (nodes_of nodes.now) 1 left.0 }
-    requires right { HasWidth (nodes_of nodes.now) 1 right.0 }
-    ensures pair { IsPair (nodes_of nodes.now) result }
+fn cube_of(nodes: &Nodes, left: Term, right: Term) -> Cube
+    requires left { HasWidth (terms nodes.now) 1 left.0 }
+    requires right { HasWidth (terms nodes.now) 1 right.0 }
+    ensures pair { IsPair (terms nodes.now) result }
     ensures left { result.left ≡ left }
     ensures right { result.right ≡ right }
 {
@@ -79,14 +80,13 @@ fn cube_of(nodes: &[Node], left: Term, right: Term) -> Cube
 }
 
 /// A bit as a conjunction: of the operands of an `and`, or of itself with itself.
-fn split(nodes: &[Node], term: Term) -> Cube
-    requires typed { AreTyped (nodes_of nodes.now) }
-    requires place { HasWidth (nodes_of nodes.now) 1 term.0 }
-    ensures { IsCube (nodes_of nodes.now) term.0 result }
+fn split(nodes: &Nodes, term: Term) -> Cube
+    requires place { HasWidth (terms nodes.now) 1 term.0 }
+    ensures { IsCube (terms nodes.now) term.0 result }
 {
     match look(nodes, term) {
         Node::Binary {
-            op: Op::And,
+            op: BinaryOp::And,
             left,
             right,
             ..
@@ -160,13 +160,12 @@ fn covers(cube: Cube, other: Cube) -> bool
 }
 
 /// A bit that does for another in an `or`: of a conjunction with the negation of the other side, what stands beside that.
-fn without(nodes: &[Node], side: Term, term: Term) -> Term
-    requires typed { AreTyped (nodes_of nodes.now) }
-    requires side { HasWidth (nodes_of nodes.now) 1 side.0 }
-    requires place { HasWidth (nodes_of nodes.now) 1 term.0 }
-    ensures place { HasWidth (nodes_of nodes.now) 1 result.0 }
-    ensures value { (x : TermReading) → InRange x → bit_or (term_word x (nodes_of nodes.now) side.0) (term_word x (nodes_of nodes.now) result.0)
-        ≡ bit_or (term_word x (nodes_of nodes.now) side.0) (term_word x (nodes_of nodes.now) term.0) }
+fn without(nodes: &Nodes, side: Term, term: Term) -> Term
+    requires side { HasWidth (terms nodes.now) 1 side.0 }
+    requires place { HasWidth (terms nodes.now) 1 term.0 }
+    ensures place { HasWidth (terms nodes.now) 1 result.0 }
+    ensures value { (x : TermReading) → InRange x → bit_or (term_word x (terms nodes.now) side.0) (term_word x (terms nodes.now) result.0)
+        ≡ bit_or (term_word x (terms nodes.now) side.0) (term_word x (terms nodes.now) term.0) }
 {
     let literal = literal_of(nodes, side);
     let cube = split(nodes, term);
@@ -180,16 +179,15 @@ fn without(nodes: &[Node], side: Term, term: Term) -> Term
 }
 
 /// A bit that does for another in an `and`: of a disjunction with the other side that side, and with its negation what stands beside that.
-fn within(nodes: &[Node], side: Term, term: Term) -> Term
-    requires typed { AreTyped (nodes_of nodes.now) }
-    requires side { HasWidth (nodes_of nodes.now) 1 side.0 }
-    requires place { HasWidth (nodes_of nodes.now) 1 term.0 }
-    ensures place { HasWidth (nodes_of nodes.now) 1 result.0 }
-    ensures value { (x : TermReading) → InRange x → bit_and (term_word x (nodes_of nodes.now) side.0) (term_word x (nodes_of nodes.now) result.0)
-        ≡ bit_and (term_word x (nodes_of nodes.now) side.0) (term_word x (nodes_of nodes.now) term.0) }
+fn within(nodes: &Nodes, side: Term, term: Term) -> Term
+    requires side { HasWidth (terms nodes.now) 1 side.0 }
+    requires place { HasWidth (terms nodes.now) 1 term.0 }
+    ensures place { HasWidth (terms nodes.now) 1 result.0 }
+    ensures value { (x : TermReading) → InRange x → bit_and (term_word x (terms nodes.now) side.0) (term_word x (terms nodes.now) result.0)
+        ≡ bit_and (term_word x (terms nodes.now) side.0) (term_word x (terms nodes.now) term.0) }
 {
     let Node::Binary {
-        op: Op::Or,
+        op: BinaryOp::Or,
         left,
         right,
         ..
@@ -212,12 +210,11 @@ fn within(nodes: &[Node], side: Term, term: Term) -> Term
 }
 
 /// An `and` or an `or` of two bits, in their order.
-fn pair(nodes: &[Node], op: Op, left: Term, right: Term) -> Folded
-    requires typed { AreTyped (nodes_of nodes.now) }
-    requires left { HasWidth (nodes_of nodes.now) 1 left.0 }
-    requires right { HasWidth (nodes_of nodes.now) 1 right.0 }
-    ensures { IsWordFold (nodes_of nodes.now) (result_width (op_of op) 1)
-        (λ x. operate (op_of op) 1 (term_word x (nodes_of nodes.now) left.0) (term_word x (nodes_of nodes.now) right.0)) (op_weight (op_of op) 1) result }
+fn pair(nodes: &Nodes, op: BinaryOp, left: Term, right: Term) -> Folded
+    requires left { HasWidth (terms nodes.now) 1 left.0 }
+    requires right { HasWidth (terms nodes.now) 1 right.0 }
+    ensures { IsWordFold (terms nodes.now) (result_width (binary_of op) 1)
+        (λ x. operate (binary_of op) 1 (term_word x (terms nodes.now) left.0) (term_word x (terms nodes.now) right.0)) (op_weight (binary_of op) 1) result }
 {
     let (first, second) = ordered(nodes, op, left, right);
     Folded::New(Node::Binary {
@@ -229,14 +226,13 @@ fn pair(nodes: &[Node], op: Op, left: Term, right: Term) -> Folded
 }
 
 /// A bit whose negation does for another bit in an `and`: of a negated conjunction with the other side, what stands beside that.
-fn denied(nodes: &[Node], side: Term, term: Term) -> Option<Term>
-    requires typed { AreTyped (nodes_of nodes.now) }
-    requires side { HasWidth (nodes_of nodes.now) 1 side.0 }
-    requires place { HasWidth (nodes_of nodes.now) 1 term.0 }
-    ensures place { IfSome result (λ r. HasWidth (nodes_of nodes.now) 1 r.0) }
+fn denied(nodes: &Nodes, side: Term, term: Term) -> Option<Term>
+    requires side { HasWidth (terms nodes.now) 1 side.0 }
+    requires place { HasWidth (terms nodes.now) 1 term.0 }
+    ensures place { IfSome result (λ r. HasWidth (terms nodes.now) 1 r.0) }
     ensures value { IfSome result (λ r. (x : TermReading) → InRange x →
-        bit_and (term_word x (nodes_of nodes.now) side.0) (words.complement 1 (term_word x (nodes_of nodes.now) r.0))
-        ≡ bit_and (term_word x (nodes_of nodes.now) side.0) (term_word x (nodes_of nodes.now) term.0)) }
+        bit_and (term_word x (terms nodes.now) side.0) (words.complement 1 (term_word x (terms nodes.now) r.0))
+        ≡ bit_and (term_word x (terms nodes.now) side.0) (term_word x (terms nodes.now) term.0)) }
 {
     let Node::Not { term: inner, .. } = look(nodes, term) else {
         return None;
@@ -253,40 +249,36 @@ fn denied(nodes: &[Node], side: Term, term: Term) -> Option<Term>
 }
 
 /// A bit `and` the negation of another.
-fn unless(nodes: &[Node], side: Term, term: Term) -> Folded
-    requires typed { AreTyped (nodes_of nodes.now) }
-    requires side { HasWidth (nodes_of nodes.now) 1 side.0 }
-    requires place { HasWidth (nodes_of nodes.now) 1 term.0 }
-    ensures { IsWordFold (nodes_of nodes.now) 1 (λ x. bit_and (term_word x (nodes_of nodes.now) side.0)
-        (words.complement 1 (term_word x (nodes_of nodes.now) term.0))) 1 result }
+fn unless(nodes: &Nodes, side: Term, term: Term) -> Folded
+    requires side { HasWidth (terms nodes.now) 1 side.0 }
+    requires place { HasWidth (terms nodes.now) 1 term.0 }
+    ensures { IsWordFold (terms nodes.now) 1 (λ x. bit_and (term_word x (terms nodes.now) side.0) (words.complement 1 (term_word x (terms nodes.now) term.0))) 1 result }
 {
     match look(nodes, term) {
-        Node::Not { term: inner, .. } => pair(nodes, Op::And, side, inner),
+        Node::Not { term: inner, .. } => pair(nodes, BinaryOp::And, side, inner),
         _ => Folded::Unless(side, term),
     }
 }
 
 /// An `and` of two bits, one of which does with less beside the other.
-fn narrowed(nodes: &[Node], left: Term, right: Term) -> Option<Folded>
-    requires typed { AreTyped (nodes_of nodes.now) }
-    requires left { HasWidth (nodes_of nodes.now) 1 left.0 }
-    requires right { HasWidth (nodes_of nodes.now) 1 right.0 }
-    ensures { IfSome result (λ f. IsWordFold (nodes_of nodes.now) 1
-        (λ x. bit_and (term_word x (nodes_of nodes.now) left.0) (term_word x (nodes_of nodes.now) right.0)) 1 f) }
+fn narrowed(nodes: &Nodes, left: Term, right: Term) -> Option<Folded>
+    requires left { HasWidth (terms nodes.now) 1 left.0 }
+    requires right { HasWidth (terms nodes.now) 1 right.0 }
+    ensures { IfSome result (λ f. IsWordFold (terms nodes.now) 1 (λ x. bit_and (term_word x (terms nodes.now) left.0) (term_word x (terms nodes.now) right.0)) 1 f) }
 {
     let second = within(nodes, left, right);
     if second.0 == left.0 {
         return Some(Folded::Old(left));
     }
     if second.0 != right.0 {
-        return Some(pair(nodes, Op::And, left, second));
+        return Some(pair(nodes, BinaryOp::And, left, second));
     }
     let first = within(nodes, right, left);
     if first.0 == right.0 {
         return Some(Folded::Old(right));
     }
     if first.0 != left.0 {
-        return Some(pair(nodes, Op::And, first, right));
+        return Some(pair(nodes, BinaryOp::And, first, right));
     }
     if let Some(term) = denied(nodes, left, right) {
         return Some(unless(nodes, left, term));
@@ -298,31 +290,27 @@ fn narrowed(nodes: &[Node], left: Term, right: Term) -> Option<Folded>
 }
 
 /// An `or` of two bits, one of which does with less beside the other.
-fn widened(nodes: &[Node], left: Term, right: Term) -> Option<Folded>
-    requires typed { AreTyped (nodes_of nodes.now) }
-    requires left { HasWidth (nodes_of nodes.now) 1 left.0 }
-    requires right { HasWidth (nodes_of nodes.now) 1 right.0 }
-    ensures { IfSome result (λ f. IsWordFold (nodes_of nodes.now) 1
-        (λ x. bit_or (term_word x (nodes_of nodes.now) left.0) (term_word x (nodes_of nodes.now) right.0)) 1 f) }
+fn widened(nodes: &Nodes, left: Term, right: Term) -> Option<Folded>
+    requires left { HasWidth (terms nodes.now) 1 left.0 }
+    requires right { HasWidth (terms nodes.now) 1 right.0 }
+    ensures { IfSome result (λ f. IsWordFold (terms nodes.now) 1 (λ x. bit_or (term_word x (terms nodes.now) left.0) (term_word x (terms nodes.now) right.0)) 1 f) }
 {
     let second = without(nodes, left, right);
     if second.0 != right.0 {
-        return Some(pair(nodes, Op::Or, left, second));
+        return Some(pair(nodes, BinaryOp::Or, left, second));
     }
     let first = without(nodes, right, left);
     if first.0 != left.0 {
-        return Some(pair(nodes, Op::Or, first, right));
+        return Some(pair(nodes, BinaryOp::Or, first, right));
     }
     None
 }
 
 /// An `and` of two bits.
-pub fn conjunction(nodes: &[Node], left: Term, right: Term) -> Option<Folded>
-    requires typed { AreTyped (nodes_of nodes.now) }
-    requires left { HasWidth (nodes_of nodes.now) 1 left.0 }
-    requires right { HasWidth (nodes_of nodes.now) 1 right.0 }
-    ensures { IfSome result (λ f. IsWordFold (nodes_of nodes.now) 1
-        (λ x. bit_and (term_word x (nodes_of nodes.now) left.0) (term_word x (nodes_of nodes.now) right.0)) 1 f) }
+pub fn conjunction(nodes: &Nodes, left: Term, right: Term) -> Option<Folded>
+    requires left { HasWidth (terms nodes.now) 1 left.0 }
+    requires right { HasWidth (terms nodes.now) 1 right.0 }
+    ensures { IfSome result (λ f. IsWordFold (terms nodes.now) 1 (λ x. bit_and (term_word x (terms nodes.now) left.0) (term_word x (terms nodes.now) right.0)) 1 f) }
 {
     let a = split(nodes, left);
     let b = split(nodes, right);
@@ -339,12 +327,10 @@ pub fn conjunction(nodes: &[Node], left: Term, right: Term) -> Option<Folded>
 }
 
 /// An `or` of two bits.
-pub fn disjunction(nodes: &[Node], left: Term, right: Term) -> Option<Folded>
-    requires typed { AreTyped (nodes_of nodes.now) }
-    requires left { HasWidth (nodes_of nodes.now) 1 left.0 }
-    requires right { HasWidth (nodes_of nodes.now) 1 right.0 }
-    ensures { IfSome result (λ f. IsWordFold (nodes_of nodes.now) 1
-        (λ x. bit_or (term_word x (nodes_of nodes.now) left.0) (term_word x (nodes_of nodes.now) right.0)) 1 f) }
+pub fn disjunction(nodes: &Nodes, left: Term, right: Term) -> Option<Folded>
+    requires left { HasWidth (terms nodes.now) 1 left.0 }
+    requires right { HasWidth (terms nodes.now) 1 right.0 }
+    ensures { IfSome result (λ f. IsWordFold (terms nodes.now) 1 (λ x. bit_or (term_word x (terms nodes.now) left.0) (term_word x (terms nodes.now) right.0)) 1 f) }
 {
     let a = split(nodes, left);
     let b = split(nodes, right);
@@ -368,11 +354,10 @@ pub fn disjunction(nodes: &[Node], left: Term, right: Term) -> Option<Folded>
 
 /// A bit that is 1 where the condition is, and 0 where the condition is not and `met` is. Of a conjunction of two bits that is the one of them that `met` has
 /// negated beside the other; else it is the condition itself.
-pub fn separator(nodes: &[Node], condition: Term, met: Term) -> Term
-    requires typed { AreTyped (nodes_of nodes.now) }
-    requires condition { HasWidth (nodes_of nodes.now) 1 condition.0 }
-    requires met { HasWidth (nodes_of nodes.now) 1 met.0 }
-    ensures { Separates (nodes_of nodes.now) condition.0 met.0 result.0 }
+pub fn separator(nodes: &Nodes, condition: Term, met: Term) -> Term
+    requires condition { HasWidth (terms nodes.now) 1 condition.0 }
+    requires met { HasWidth (terms nodes.now) 1 met.0 }
+    ensures { Separates (terms nodes.now) condition.0 met.0 result.0 }
 {
     let a = split(nodes, condition);
     let b = split(nodes, met);

@@ -3,12 +3,15 @@
 ghost use Rattle.std.specs.Prelude.{◌≡◌, ℕ, ◌<◌, ◌≤◌, ◌^◌, ◌⊎◌, List, [], length, take, IfNone, IfSome, IfOk, MatchResult};
 ghost use Rattle.term_spec.specs.Terms.{ConstantNode, TermNode, TermReading, node_at, term_value, term_word, width_of, HasWidth, IsTypedOver, AreTyped};
 ghost use Rattle.term_dag.specs.Nodes.{node_of, nodes_of};
+ghost use Rattle.term_dag.specs.Lists.{terms};
 ghost use Rattle.term_dag.specs.Readings.{AreWords, reading_of, reading_of_parts};
 ghost use Rattle.term_dag.specs.Made.{AreDistinct, IsInterned, IsMade, Separates};
 
 use crate::folds::{Folded, fold, look, width_of_node};
+use crate::typed::Nodes;
 use crate::values::{byte, one_part, words_of};
-use crate::{Node, Op, Parts, Reading, Term, conditions};
+use crate::{Node, Parts, Reading, Term, conditions};
+use bil_ast::BinaryOp;
 use indexmap::IndexSet;
 use std::alloc::{AllocError, Global};
 use std::marker::Model;
@@ -59,12 +62,21 @@ impl Dag {
         self.nodes.len()
     }
 
+    /// The nodes as a list.
+    fn as_nodes(&self) -> Nodes<'_>
+        ensures { terms result ≡ self.now }
+    {
+        Nodes {
+            list: self.nodes.as_slice(),
+        }
+    }
+
     /// The node of a term.
     pub fn node(&self, term: Term) -> Node
         requires { term.0 < length self.now }
         ensures { node_of result ≡ node_at self.now term.0 }
     {
-        look(self.nodes.as_slice(), term)
+        look(&self.as_nodes(), term)
     }
 
     /// The bits of a constant.
@@ -85,8 +97,8 @@ impl Dag {
         requires { term.0 < length self.now }
         ensures { result ≡ width_of (node_at self.now term.0) }
     {
-        let nodes = self.nodes.as_slice();
-        width_of_node(nodes, look(nodes, term))
+        let nodes = self.as_nodes();
+        width_of_node(&nodes, look(&nodes, term))
     }
 
     /// A bit that is 1 where the condition is, and 0 where the condition is 0 and `met` is 1.
@@ -95,14 +107,14 @@ impl Dag {
         requires met { HasWidth self.now 1 met.0 }
         ensures { Separates self.now condition.0 met.0 result.0 }
     {
-        conditions::separator(self.nodes.as_slice(), condition, met)
+        conditions::separator(&self.as_nodes(), condition, met)
     }
 
     /// The words of all terms under a reading, by their places; those of memories are 0. The error is want of memory.
     pub fn values(&self, alloc: Global, reading: &Reading) -> Result<Vec<u64>, AllocError>
         ensures { IfOk result (λ ws. AreWords (reading_of reading.now) self.now ws.items) }
     {
-        let words = words_of(alloc, self.nodes.as_slice(), &one_part(reading))?;
+        let words = words_of(alloc, &self.as_nodes(), &one_part(reading))?;
         Ok(words)
     }
 
@@ -110,7 +122,7 @@ impl Dag {
     pub fn values_of_parts(&self, alloc: Global, parts: &Parts) -> Result<Vec<u64>, AllocError>
         ensures { IfOk result (λ ws. AreWords (reading_of_parts parts.now) self.now ws.items) }
     {
-        let words = words_of(alloc, self.nodes.as_slice(), parts)?;
+        let words = words_of(alloc, &self.as_nodes(), parts)?;
         Ok(words)
     }
 
@@ -119,7 +131,7 @@ impl Dag {
         requires { term.0 < length self.now }
         ensures { IfOk result (λ n. n ≡ term_word (reading_of reading.now) self.now term.0) }
     {
-        let words = words_of(alloc, self.nodes.as_slice(), &one_part(reading))?;
+        let words = words_of(alloc, &self.as_nodes(), &one_part(reading))?;
         Ok(words[term.0 as usize])
     }
 
@@ -129,13 +141,7 @@ impl Dag {
         requires within { term.0 < length self.now }
         ensures { result ≡ (term_value (reading_of reading.now) self.now term.0).bytes address }
     {
-        byte(
-            self.nodes.as_slice(),
-            words,
-            &one_part(reading),
-            term,
-            address,
-        )
+        byte(&self.as_nodes(), words, &one_part(reading), term, address)
     }
 
     /// The place of a node as it is, which is added where it is not there: nothing is folded. The error is out of memory, or of numbers for terms; then the
@@ -172,7 +178,7 @@ impl Dag {
         ensures { MatchResult result (λ t. IsMade self.old self.new (node_of node) t.0) (λ e. self.new ≡ self.old) }
     {
         let stood = self.nodes.len();
-        match fold(self.nodes.as_slice(), node) {
+        match fold(&self.as_nodes(), node) {
             Folded::Old(term) => Ok(term),
             Folded::New(node) => {
                 let term = self.keep(node)?;
@@ -196,7 +202,7 @@ impl Dag {
                 })?;
                 let (left, right) = by_place(bit, negation);
                 let node = Node::Binary {
-                    op: Op::And,
+                    op: BinaryOp::And,
                     width: 1,
                     left,
                     right,

@@ -2,11 +2,15 @@
 
 ghost use Rattle.std.specs.Prelude.{◌≡◌, ◌<◌, ◌≤◌, ◌^◌, ◌-◌, length, IfSome};
 ghost use Rattle.machine_spec.specs.BilTyping.{result_width};
-ghost use Rattle.term_spec.specs.Terms.{operate, width_of, node_at, AreTyped, IsTypedOver};
-ghost use Rattle.term_dag.specs.Nodes.{node_of, nodes_of, op_of};
+ghost use Rattle.term_spec.specs.Terms.{operate, width_of, node_at, IsTypedOver};
+ghost use Rattle.bil_ast.specs.Views.{binary_of};
+ghost use Rattle.term_dag.specs.Nodes.{node_of};
+ghost use Rattle.term_dag.specs.Lists.{terms};
 ghost use Rattle.term_dag.specs.Folds.{IsConstant, IsFold};
 
-use crate::{Node, Op, Term, memories, operators, selections, slices};
+use crate::typed::Nodes;
+use crate::{Node, Term, memories, operators, selections, slices};
+use bil_ast::BinaryOp;
 use bv_word::Word;
 
 /// What a node comes to: a term that is there, a node, an operator of a width between a term and a constant, or a bit `and` the negation of another.
@@ -14,23 +18,22 @@ use bv_word::Word;
 pub enum Folded {
     Old(Term),
     New(Node),
-    Onto(Op, u8, Term, u64),
+    Onto(BinaryOp, u8, Term, u64),
     Unless(Term, Term),
 }
 
 /// The node of a term.
-pub fn look(nodes: &[Node], term: Term) -> Node
-    requires { term.0 < length (nodes_of nodes.now) }
-    ensures { node_of result ≡ node_at (nodes_of nodes.now) term.0 }
+pub fn look(nodes: &Nodes, term: Term) -> Node
+    requires { term.0 < length (terms nodes.now) }
+    ensures { node_of result ≡ node_at (terms nodes.now) term.0 }
 {
-    nodes[term.0 as usize]
+    nodes.list[term.0 as usize]
 }
 
 /// A constant's bits.
-pub fn constant(nodes: &[Node], term: Term) -> Option<u64>
-    requires typed { AreTyped (nodes_of nodes.now) }
-    requires within { term.0 < length (nodes_of nodes.now) }
-    ensures { IfSome result (λ c. IsConstant (nodes_of nodes.now) term.0 c) }
+pub fn constant(nodes: &Nodes, term: Term) -> Option<u64>
+    requires within { term.0 < length (terms nodes.now) }
+    ensures { IfSome result (λ c. IsConstant (terms nodes.now) term.0 c) }
 {
     match look(nodes, term) {
         Node::Constant { value, .. } => Some(value),
@@ -48,59 +51,58 @@ pub fn ones(width: u8) -> u64
 }
 
 /// The width of an operator's result.
-pub fn result_width(op: Op, width: u8) -> u8
-    ensures { result ≡ result_width (op_of op) width }
+pub fn result_width(op: BinaryOp, width: u8) -> u8
+    ensures { result ≡ result_width (binary_of op) width }
 {
     match op {
-        Op::Equal
-        | Op::NotEqual
-        | Op::Less
-        | Op::LessEqual
-        | Op::SignedLess
-        | Op::SignedLessEqual => 1,
+        BinaryOp::Equal
+        | BinaryOp::NotEqual
+        | BinaryOp::Less
+        | BinaryOp::LessEqual
+        | BinaryOp::SignedLess
+        | BinaryOp::SignedLessEqual => 1,
         _ => width,
     }
 }
 
 /// An operator on two words of a width.
-pub fn apply(op: Op, width: u8, left: u64, right: u64) -> u64
+pub fn apply(op: BinaryOp, width: u8, left: u64, right: u64) -> u64
     requires some { 1 ≤ width }
     requires few { width ≤ 64 }
     requires left { left < 2 ^ width }
     requires right { right < 2 ^ width }
-    ensures value { result ≡ operate (op_of op) width left right }
-    ensures below { result < 2 ^ result_width (op_of op) width }
+    ensures value { result ≡ operate (binary_of op) width left right }
+    ensures below { result < 2 ^ result_width (binary_of op) width }
 {
     let a = Word::new(width, left);
     let b = Word::new(width, right);
     let word = match op {
-        Op::Plus => a.add(b),
-        Op::Minus => a.sub(b),
-        Op::Times => a.mul(b),
-        Op::Divide => a.udiv(b),
-        Op::SignedDivide => a.sdiv(b),
-        Op::Modulo => a.urem(b),
-        Op::SignedModulo => a.srem(b),
-        Op::And => a.and(b),
-        Op::Or => a.or(b),
-        Op::Xor => a.xor(b),
-        Op::ShiftLeft => a.shl(b),
-        Op::ShiftRight => a.shr(b),
-        Op::ShiftSigned => a.sar(b),
-        Op::Equal => a.eq(b),
-        Op::NotEqual => a.eq(b).not(),
-        Op::Less => a.ult(b),
-        Op::LessEqual => a.ule(b),
-        Op::SignedLess => a.slt(b),
-        Op::SignedLessEqual => a.sle(b),
+        BinaryOp::Plus => a.add(b),
+        BinaryOp::Minus => a.sub(b),
+        BinaryOp::Times => a.mul(b),
+        BinaryOp::Divide => a.udiv(b),
+        BinaryOp::SignedDivide => a.sdiv(b),
+        BinaryOp::Modulo => a.urem(b),
+        BinaryOp::SignedModulo => a.srem(b),
+        BinaryOp::And => a.and(b),
+        BinaryOp::Or => a.or(b),
+        BinaryOp::Xor => a.xor(b),
+        BinaryOp::ShiftLeft => a.shl(b),
+        BinaryOp::ShiftRight => a.shr(b),
+        BinaryOp::ShiftSigned => a.sar(b),
+        BinaryOp::Equal => a.eq(b),
+        BinaryOp::NotEqual => a.eq(b).not(),
+        BinaryOp::Less => a.ult(b),
+        BinaryOp::LessEqual => a.ule(b),
+        BinaryOp::SignedLess => a.slt(b),
+        BinaryOp::SignedLessEqual => a.sle(b),
     };
     word.bits
 }
 
 /// The width of a node's word, and 0 for a memory.
-pub fn width_of_node(nodes: &[Node], node: Node) -> u8
-    requires typed { AreTyped (nodes_of nodes.now) }
-    requires over { IsTypedOver (nodes_of nodes.now) (node_of node) }
+pub fn width_of_node(nodes: &Nodes, node: Node) -> u8
+    requires over { IsTypedOver (terms nodes.now) (node_of node) }
     ensures { result ≡ width_of (node_of node) }
 {
     match node {
@@ -120,10 +122,9 @@ pub fn width_of_node(nodes: &[Node], node: Node) -> u8
 }
 
 /// What a node comes to.
-pub fn fold(nodes: &[Node], node: Node) -> Folded
-    requires typed { AreTyped (nodes_of nodes.now) }
-    requires over { IsTypedOver (nodes_of nodes.now) (node_of node) }
-    ensures { IsFold (nodes_of nodes.now) (node_of node) result }
+pub fn fold(nodes: &Nodes, node: Node) -> Folded
+    requires over { IsTypedOver (terms nodes.now) (node_of node) }
+    ensures { IsFold (terms nodes.now) (node_of node) result }
 {
     match node {
         Node::Binary {

@@ -9,8 +9,9 @@ mod nodes;
 mod operators;
 mod selections;
 mod slices;
+mod typed;
 mod values;
 
 pub use dag::Dag;
-pub use nodes::{Node, Op, Term};
+pub use nodes::{Node, Term};
 pub use values::{Parts, Reading};

@@ -2,20 +2,20 @@
 
 ghost use Rattle.std.specs.Prelude.{◌≡◌};
 ghost use Rattle.word_spec.specs.Memory.{endian};
-ghost use Rattle.term_spec.specs.Terms.{LoadNode, HasWidth, IsBytes, AreTyped};
-ghost use Rattle.term_dag.specs.Nodes.{nodes_of};
+ghost use Rattle.term_spec.specs.Terms.{LoadNode, HasWidth, IsBytes};
+ghost use Rattle.term_dag.specs.Lists.{terms};
 ghost use Rattle.term_dag.specs.Folds.{IsFold};
 
 use crate::folds::{Folded, look};
+use crate::typed::Nodes;
 use crate::{Node, Term};
 
 /// The bytes at an address of a memory: of a store of just these bytes, what was stored.
-pub fn load(nodes: &[Node], bytes: u8, big: bool, memory: Term, address: Term) -> Folded
-    requires typed { AreTyped (nodes_of nodes.now) }
+pub fn load(nodes: &Nodes, bytes: u8, big: bool, memory: Term, address: Term) -> Folded
     requires some { IsBytes bytes }
-    requires memory { HasWidth (nodes_of nodes.now) 0 memory.0 }
-    requires address { HasWidth (nodes_of nodes.now) 32 address.0 }
-    ensures { IsFold (nodes_of nodes.now) (LoadNode bytes (endian big) memory.0 address.0) result }
+    requires memory { HasWidth (terms nodes.now) 0 memory.0 }
+    requires address { HasWidth (terms nodes.now) 32 address.0 }
+    ensures { IsFold (terms nodes.now) (LoadNode bytes (endian big) memory.0 address.0) result }
 {
     if let Node::Store {
         bytes: stored,

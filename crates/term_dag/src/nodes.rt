@@ -5,34 +5,11 @@ ghost use Rattle.std.specs.List.{AllByRecursion};
 ghost use Rattle.term_dag.specs.Nodes.{node_of, term_at};
 ghost use Rattle.term_dag.specs.Made.{moved, operands};
 
+use bil_ast::BinaryOp;
+
 /// The place of a node in a `Dag`.
 #[derive(Clone, Copy, Debug, PartialEq, Eq, Hash)]
 pub struct Term(pub u32);
-
-/// An operator between two words of one width. The comparisons give 1 bit, the others a word of that width; a division by 0 gives all ones, and its remainder
-/// the dividend.
-#[derive(Clone, Copy, Debug, PartialEq, Eq, Hash)]
-pub enum Op {
-    Plus,
-    Minus,
-    Times,
-    Divide,
-    SignedDivide,
-    Modulo,
-    SignedModulo,
-    And,
-    Or,
-    Xor,
-    ShiftLeft,
-    ShiftRight,
-    ShiftSigned,
-    Equal,
-    NotEqual,
-    Less,
-    LessEqual,
-    SignedLess,
-    SignedLessEqual,
-}
 
 /// A node: an input, a constant, or an operator on terms. Widths are in bits, 1 to 64; loads and stores are of 1 to 8 bytes. Inputs are named by parts: a part
 /// is a state that is given, with registers, flags and a memory of its own. Part 0 is what a program has at entry.
@@ -64,7 +41,7 @@ pub enum Node {
     },
     /// An operator on two words of the width.
     Binary {
-        op: Op,
+        op: BinaryOp,
         width: u8,
         left: Term,
         right: Term,

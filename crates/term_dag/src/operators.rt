@@ -6,11 +6,14 @@ ghost use Rattle.machine_spec.specs.Bil as bil;
 ghost use Rattle.machine_spec.specs.BilTyping.{result_width};
 ghost use Rattle.machine_spec.specs.BilCounts.{op_weight};
 ghost use Rattle.term_spec.specs.Terms.{TermNode, TermReading, operate, term_word, HasWidth, IsWidth, AreTyped};
-ghost use Rattle.term_dag.specs.Nodes.{nodes_of, op_of};
+ghost use Rattle.bil_ast.specs.Views.{binary_of};
+ghost use Rattle.term_dag.specs.Lists.{terms};
 ghost use Rattle.term_dag.specs.Folds.{IsConstant, IsSum, IsSymmetric, IsWordFold};
 
 use crate::folds::{Folded, apply, constant, look, ones, result_width};
-use crate::{Node, Op, Term, conditions};
+use crate::typed::Nodes;
+use crate::{Node, Term, conditions};
+use bil_ast::BinaryOp;
 
 /// A word as the sum of a term and a constant.
 #[derive(Clone, Copy)]
@@ -20,27 +23,26 @@ struct Sum {
 }
 
 /// Whether the operands may change places.
-fn is_symmetric(op: Op) -> bool
-    ensures { IsTrue result → IsSymmetric (op_of op) }
+fn is_symmetric(op: BinaryOp) -> bool
+    ensures { IsTrue result → IsSymmetric (binary_of op) }
 {
     match op {
-        Op::Plus => true,
-        Op::Times => true,
-        Op::And => true,
-        Op::Or => true,
-        Op::Xor => true,
-        Op::Equal => true,
-        Op::NotEqual => true,
+        BinaryOp::Plus => true,
+        BinaryOp::Times => true,
+        BinaryOp::And => true,
+        BinaryOp::Or => true,
+        BinaryOp::Xor => true,
+        BinaryOp::Equal => true,
+        BinaryOp::NotEqual => true,
         _ => false,
     }
 }
 
 /// The operands of a symmetric operator in their order: a constant last, else the later term last.
-pub fn ordered(nodes: &[Node], op: Op, left: Term, right: Term) -> (Term, Term)
-    requires typed { AreTyped (nodes_of nodes.now) }
-    requires left { left.0 < length (nodes_of nodes.now) }
-    requires right { right.0 < length (nodes_of nodes.now) }
-    ensures { ((result.0 ≡ left) × (result.1 ≡ right)) ⊎ ((result.0 ≡ right) × (result.1 ≡ left) × IsSymmetric (op_of op)) }
+pub fn ordered(nodes: &Nodes, op: BinaryOp, left: Term, right: Term) -> (Term, Term)
+    requires left { left.0 < length (terms nodes.now) }
+    requires right { right.0 < length (terms nodes.now) }
+    ensures { ((result.0 ≡ left) × (result.1 ≡ right)) ⊎ ((result.0 ≡ right) × (result.1 ≡ left) × IsSymmetric (binary_of op)) }
 {
     if !is_symmetric(op) {
         return (left, right);
@@ -58,46 +60,45 @@ pub fn ordered(nodes: &[Node], op: Op, left: Term, right: Term) -> (Term, Term)
 }
 
 /// Whether an operator with this right operand gives the left one.
-fn is_neutral(op: Op, width: u8, right: u64) -> bool
+fn is_neutral(op: BinaryOp, width: u8, right: u64) -> bool
     requires { IsWidth width }
-    ensures width { IsTrue result → result_width (op_of op) width ≡ width }
-    ensures value { IsTrue result → (a : ℕ) → a < 2 ^ width → operate (op_of op) width a right ≡ a }
+    ensures width { IsTrue result → result_width (binary_of op) width ≡ width }
+    ensures value { IsTrue result → (a : ℕ) → a < 2 ^ width → operate (binary_of op) width a right ≡ a }
 {
     match op {
-        Op::Plus => right == 0,
-        Op::Minus => right == 0,
-        Op::Or => right == 0,
-        Op::Xor => right == 0,
-        Op::ShiftLeft => right == 0,
-        Op::ShiftRight => right == 0,
-        Op::ShiftSigned => right == 0,
-        Op::And => right == ones(width),
+        BinaryOp::Plus => right == 0,
+        BinaryOp::Minus => right == 0,
+        BinaryOp::Or => right == 0,
+        BinaryOp::Xor => right == 0,
+        BinaryOp::ShiftLeft => right == 0,
+        BinaryOp::ShiftRight => right == 0,
+        BinaryOp::ShiftSigned => right == 0,
+        BinaryOp::And => right == ones(width),
         _ => false,
     }
 }
 
 /// Whether an operator with this right operand gives it back.
-fn is_absorbing(op: Op, width: u8, right: u64) -> bool
+fn is_absorbing(op: BinaryOp, width: u8, right: u64) -> bool
     requires { IsWidth width }
-    ensures width { IsTrue result → result_width (op_of op) width ≡ width }
-    ensures value { IsTrue result → (a : ℕ) → a < 2 ^ width → operate (op_of op) width a right ≡ right }
+    ensures width { IsTrue result → result_width (binary_of op) width ≡ width }
+    ensures value { IsTrue result → (a : ℕ) → a < 2 ^ width → operate (binary_of op) width a right ≡ right }
 {
     match op {
-        Op::And | Op::Times => right == 0,
-        Op::Or => right == ones(width),
+        BinaryOp::And | BinaryOp::Times => right == 0,
+        BinaryOp::Or => right == ones(width),
         _ => false,
     }
 }
 
 /// A word as a sum.
-fn parts(nodes: &[Node], width: u8, term: Term) -> Sum
-    requires typed { AreTyped (nodes_of nodes.now) }
+fn parts(nodes: &Nodes, width: u8, term: Term) -> Sum
     requires some { IsWidth width }
-    requires place { HasWidth (nodes_of nodes.now) width term.0 }
-    ensures { IsSum (nodes_of nodes.now) width term.0 result.base.0 result.offset }
+    requires place { HasWidth (terms nodes.now) width term.0 }
+    ensures { IsSum (terms nodes.now) width term.0 result.base.0 result.offset }
 {
     if let Node::Binary {
-        op: Op::Plus,
+        op: BinaryOp::Plus,
         left,
         right,
         ..
@@ -114,19 +115,18 @@ fn parts(nodes: &[Node], width: u8, term: Term) -> Sum
 }
 
 /// A word and a constant, added.
-fn raised(nodes: &[Node], width: u8, term: Term, addend: u64) -> Folded
-    requires typed { AreTyped (nodes_of nodes.now) }
+fn raised(nodes: &Nodes, width: u8, term: Term, addend: u64) -> Folded
     requires some { IsWidth width }
-    requires place { HasWidth (nodes_of nodes.now) width term.0 }
+    requires place { HasWidth (terms nodes.now) width term.0 }
     requires below { addend < 2 ^ width }
-    ensures { IsWordFold (nodes_of nodes.now) width (λ x. words.add width (term_word x (nodes_of nodes.now) term.0) addend) (2 * width) result }
+    ensures { IsWordFold (terms nodes.now) width (λ x. words.add width (term_word x (terms nodes.now) term.0) addend) (2 * width) result }
 {
     let sum = parts(nodes, width, term);
-    let offset = apply(Op::Plus, width, sum.offset, addend);
+    let offset = apply(BinaryOp::Plus, width, sum.offset, addend);
     if offset == 0 {
         return Folded::Old(sum.base);
     }
-    Folded::Onto(Op::Plus, width, sum.base, offset)
+    Folded::Onto(BinaryOp::Plus, width, sum.base, offset)
 }
 
 /// A constant of 1 bit.
@@ -140,11 +140,10 @@ pub fn truth(holds: bool) -> Folded
 }
 
 /// Each bit of a word turned.
-pub fn negation(nodes: &[Node], width: u8, term: Term) -> Folded
-    requires typed { AreTyped (nodes_of nodes.now) }
+pub fn negation(nodes: &Nodes, width: u8, term: Term) -> Folded
     requires some { IsWidth width }
-    requires place { HasWidth (nodes_of nodes.now) width term.0 }
-    ensures { IsWordFold (nodes_of nodes.now) width (λ x. words.complement width (term_word x (nodes_of nodes.now) term.0)) 0 result }
+    requires place { HasWidth (terms nodes.now) width term.0 }
+    ensures { IsWordFold (terms nodes.now) width (λ x. words.complement width (term_word x (terms nodes.now) term.0)) 0 result }
 {
     match look(nodes, term) {
         Node::Not { term: inner, .. } => Folded::Old(inner),
@@ -157,10 +156,9 @@ pub fn negation(nodes: &[Node], width: u8, term: Term) -> Folded
 }
 
 /// Whether a bit is a constant, or is not.
-fn bit_equality(nodes: &[Node], differs: bool, term: Term, right: u64) -> Folded
-    requires typed { AreTyped (nodes_of nodes.now) }
-    requires place { HasWidth (nodes_of nodes.now) 1 term.0 }
-    ensures { IsWordFold (nodes_of nodes.now) 1 (λ x. words.bit (words.differ differs (term_word x (nodes_of nodes.now) term.0 == right))) 0 result }
+fn bit_equality(nodes: &Nodes, differs: bool, term: Term, right: u64) -> Folded
+    requires place { HasWidth (terms nodes.now) 1 term.0 }
+    ensures { IsWordFold (terms nodes.now) 1 (λ x. words.bit (words.differ differs (term_word x (terms nodes.now) term.0 == right))) 0 result }
 {
     if right > 1 {
         return truth(differs);
@@ -172,11 +170,10 @@ fn bit_equality(nodes: &[Node], differs: bool, term: Term, right: u64) -> Folded
 }
 
 /// The bit of which a word is the extension with zeros.
-fn bit_below(nodes: &[Node], term: Term) -> Option<Term>
-    requires typed { AreTyped (nodes_of nodes.now) }
-    requires within { term.0 < length (nodes_of nodes.now) }
-    ensures place { IfSome result (λ b. HasWidth (nodes_of nodes.now) 1 b.0) }
-    ensures value { IfSome result (λ b. (x : TermReading) → term_word x (nodes_of nodes.now) term.0 ≡ term_word x (nodes_of nodes.now) b.0) }
+fn bit_below(nodes: &Nodes, term: Term) -> Option<Term>
+    requires within { term.0 < length (terms nodes.now) }
+    ensures place { IfSome result (λ b. HasWidth (terms nodes.now) 1 b.0) }
+    ensures value { IfSome result (λ b. (x : TermReading) → term_word x (terms nodes.now) term.0 ≡ term_word x (terms nodes.now) b.0) }
 {
     match look(nodes, term) {
         Node::Extend {
@@ -198,20 +195,22 @@ fn bit_below(nodes: &[Node], term: Term) -> Option<Term>
 }
 
 /// The test for equality, or for its contrary.
-fn equality_op(differs: bool) -> Op
-    ensures { op_of result ≡ (if differs then bil.NotEqual else bil.Equal) }
+fn equality_op(differs: bool) -> BinaryOp
+    ensures { binary_of result ≡ (if differs then bil.NotEqual else bil.Equal) }
 {
-    if differs { Op::NotEqual } else { Op::Equal }
+    if differs {
+        BinaryOp::NotEqual
+    } else {
+        BinaryOp::Equal
+    }
 }
 
 /// Whether a word is a constant, or is not. A word of one bit with zeros above is as its bit, and a sum as its base.
-fn equality(nodes: &[Node], differs: bool, width: u8, left: Term, right: u64) -> Option<Folded>
-    requires typed { AreTyped (nodes_of nodes.now) }
+fn equality(nodes: &Nodes, differs: bool, width: u8, left: Term, right: u64) -> Option<Folded>
     requires some { IsWidth width }
-    requires place { HasWidth (nodes_of nodes.now) width left.0 }
+    requires place { HasWidth (terms nodes.now) width left.0 }
     requires below { right < 2 ^ width }
-    ensures { IfSome result (λ f. IsWordFold (nodes_of nodes.now) 1
-        (λ x. words.bit (words.differ differs (term_word x (nodes_of nodes.now) left.0 == right))) width f) }
+    ensures { IfSome result (λ f. IsWordFold (terms nodes.now) 1 (λ x. words.bit (words.differ differs (term_word x (terms nodes.now) left.0 == right))) width f) }
 {
     if width == 1 {
         return Some(bit_equality(nodes, differs, left, right));
@@ -223,27 +222,25 @@ fn equality(nodes: &[Node], differs: bool, width: u8, left: Term, right: u64) ->
     if sum.offset == 0 {
         return None;
     }
-    let difference = apply(Op::Minus, width, right, sum.offset);
+    let difference = apply(BinaryOp::Minus, width, right, sum.offset);
     Some(Folded::Onto(equality_op(differs), width, sum.base, difference))
 }
 
 /// Whether a word is 0, or is not.
-fn zero_test(nodes: &[Node], differs: bool, width: u8, term: Term) -> Folded
-    requires typed { AreTyped (nodes_of nodes.now) }
+fn zero_test(nodes: &Nodes, differs: bool, width: u8, term: Term) -> Folded
     requires some { IsWidth width }
-    requires place { HasWidth (nodes_of nodes.now) width term.0 }
-    ensures { IsWordFold (nodes_of nodes.now) 1 (λ x. words.bit (words.differ differs (term_word x (nodes_of nodes.now) term.0 == 0))) width result }
+    requires place { HasWidth (terms nodes.now) width term.0 }
+    ensures { IsWordFold (terms nodes.now) 1 (λ x. words.bit (words.differ differs (term_word x (terms nodes.now) term.0 == 0))) width result }
 {
     let kept = Folded::Onto(equality_op(differs), width, term, 0);
     equality(nodes, differs, width, term, 0).unwrap_or(kept)
 }
 
 /// Whether a word is below a constant: nothing is below 0, only 0 is below 1, and a bit with zeros above is below all others.
-fn is_below(nodes: &[Node], width: u8, left: Term, right: u64) -> Option<Folded>
-    requires typed { AreTyped (nodes_of nodes.now) }
+fn is_below(nodes: &Nodes, width: u8, left: Term, right: u64) -> Option<Folded>
     requires some { IsWidth width }
-    requires left { HasWidth (nodes_of nodes.now) width left.0 }
-    ensures { IfSome result (λ f. IsWordFold (nodes_of nodes.now) 1 (λ x. words.bit (nat_lt (term_word x (nodes_of nodes.now) left.0) right)) width f) }
+    requires left { HasWidth (terms nodes.now) width left.0 }
+    ensures { IfSome result (λ f. IsWordFold (terms nodes.now) 1 (λ x. words.bit (nat_lt (term_word x (terms nodes.now) left.0) right)) width f) }
 {
     if right == 0 {
         return Some(truth(false));
@@ -256,11 +253,10 @@ fn is_below(nodes: &[Node], width: u8, left: Term, right: u64) -> Option<Folded>
 }
 
 /// Whether a word is above a constant.
-fn is_above(nodes: &[Node], width: u8, left: u64, right: Term) -> Option<Folded>
-    requires typed { AreTyped (nodes_of nodes.now) }
+fn is_above(nodes: &Nodes, width: u8, left: u64, right: Term) -> Option<Folded>
     requires some { IsWidth width }
-    requires right { HasWidth (nodes_of nodes.now) width right.0 }
-    ensures { IfSome result (λ f. IsWordFold (nodes_of nodes.now) 1 (λ x. words.bit (nat_lt left (term_word x (nodes_of nodes.now) right.0))) width f) }
+    requires right { HasWidth (terms nodes.now) width right.0 }
+    ensures { IfSome result (λ f. IsWordFold (terms nodes.now) 1 (λ x. words.bit (nat_lt left (term_word x (terms nodes.now) right.0))) width f) }
 {
     if left == 0 {
         return Some(zero_test(nodes, true, width, right));
@@ -273,16 +269,15 @@ fn is_above(nodes: &[Node], width: u8, left: u64, right: Term) -> Option<Folded>
 }
 
 /// A comparison between a constant and a word.
-fn from_constant(nodes: &[Node], op: Op, width: u8, left: u64, right: Term) -> Option<Folded>
-    requires typed { AreTyped (nodes_of nodes.now) }
+fn from_constant(nodes: &Nodes, op: BinaryOp, width: u8, left: u64, right: Term) -> Option<Folded>
     requires some { IsWidth width }
-    requires right { HasWidth (nodes_of nodes.now) width right.0 }
-    ensures { IfSome result (λ f. IsWordFold (nodes_of nodes.now) (result_width (op_of op) width)
-        (λ x. operate (op_of op) width left (term_word x (nodes_of nodes.now) right.0)) (op_weight (op_of op) width) f) }
+    requires right { HasWidth (terms nodes.now) width right.0 }
+    ensures { IfSome result (λ f. IsWordFold (terms nodes.now) (result_width (binary_of op) width)
+        (λ x. operate (binary_of op) width left (term_word x (terms nodes.now) right.0)) (op_weight (binary_of op) width) f) }
 {
     match op {
-        Op::Less => is_above(nodes, width, left, right),
-        Op::LessEqual => {
+        BinaryOp::Less => is_above(nodes, width, left, right),
+        BinaryOp::LessEqual => {
             if left == 0 {
                 return Some(truth(true));
             }
@@ -293,17 +288,16 @@ fn from_constant(nodes: &[Node], op: Op, width: u8, left: u64, right: Term) -> O
 }
 
 /// A comparison between a word and a constant.
-fn to_constant(nodes: &[Node], op: Op, width: u8, left: Term, right: u64) -> Option<Folded>
-    requires typed { AreTyped (nodes_of nodes.now) }
+fn to_constant(nodes: &Nodes, op: BinaryOp, width: u8, left: Term, right: u64) -> Option<Folded>
     requires some { IsWidth width }
-    requires left { HasWidth (nodes_of nodes.now) width left.0 }
+    requires left { HasWidth (terms nodes.now) width left.0 }
     requires below { right < 2 ^ width }
-    ensures { IfSome result (λ f. IsWordFold (nodes_of nodes.now) (result_width (op_of op) width)
-        (λ x. operate (op_of op) width (term_word x (nodes_of nodes.now) left.0) right) (op_weight (op_of op) width) f) }
+    ensures { IfSome result (λ f. IsWordFold (terms nodes.now) (result_width (binary_of op) width)
+        (λ x. operate (binary_of op) width (term_word x (terms nodes.now) left.0) right) (op_weight (binary_of op) width) f) }
 {
     match op {
-        Op::Less => is_below(nodes, width, left, right),
-        Op::LessEqual => {
+        BinaryOp::Less => is_below(nodes, width, left, right),
+        BinaryOp::LessEqual => {
             if right == ones(width) {
                 return Some(truth(true));
             }
@@ -314,77 +308,82 @@ fn to_constant(nodes: &[Node], op: Op, width: u8, left: Term, right: u64) -> Opt
 }
 
 /// A shift by a constant that is at least the width: no bit is left, but for the sign.
-fn shifted_out(op: Op, width: u8, left: Term, right: u64) -> Option<Folded>
+fn shifted_out(op: BinaryOp, width: u8, left: Term, right: u64) -> Option<Folded>
     requires { IsWidth width }
     ensures { IfSome result (λ f. (ns : List TermNode) → AreTyped ns → HasWidth ns width left.0 →
-        IsWordFold ns (result_width (op_of op) width) (λ x. operate (op_of op) width (term_word x ns left.0) right) (op_weight (op_of op) width) f) }
+        IsWordFold ns (result_width (binary_of op) width) (λ x. operate (binary_of op) width (term_word x ns left.0) right) (op_weight (binary_of op) width) f) }
 {
     if right < width as u64 {
         return None;
     }
     let zero = Folded::New(Node::Constant { width, value: 0 });
     match op {
-        Op::ShiftLeft => Some(zero),
-        Op::ShiftRight => Some(zero),
-        Op::ShiftSigned => Some(Folded::Onto(op, width, left, width as u64 - 1)),
+        BinaryOp::ShiftLeft => Some(zero),
+        BinaryOp::ShiftRight => Some(zero),
+        BinaryOp::ShiftSigned => Some(Folded::Onto(op, width, left, width as u64 - 1)),
         _ => None,
     }
 }
 
 /// An operator between a word and a constant.
-fn with_constant(nodes: &[Node], op: Op, width: u8, left: Term, right: u64) -> Option<Folded>
-    requires typed { AreTyped (nodes_of nodes.now) }
+fn with_constant(nodes: &Nodes, op: BinaryOp, width: u8, left: Term, right: u64) -> Option<Folded>
     requires some { IsWidth width }
-    requires left { HasWidth (nodes_of nodes.now) width left.0 }
+    requires left { HasWidth (terms nodes.now) width left.0 }
     requires below { right < 2 ^ width }
-    ensures { IfSome result (λ f. IsWordFold (nodes_of nodes.now) (result_width (op_of op) width)
-        (λ x. operate (op_of op) width (term_word x (nodes_of nodes.now) left.0) right) (op_weight (op_of op) width) f) }
+    ensures { IfSome result (λ f. IsWordFold (terms nodes.now) (result_width (binary_of op) width)
+        (λ x. operate (binary_of op) width (term_word x (terms nodes.now) left.0) right) (op_weight (binary_of op) width) f) }
 {
     match op {
-        Op::Plus => Some(raised(nodes, width, left, right)),
-        Op::Minus => Some(raised(nodes, width, left, apply(Op::Minus, width, 0, right))),
-        Op::Xor => {
+        BinaryOp::Plus => Some(raised(nodes, width, left, right)),
+        BinaryOp::Minus => Some(raised(
+            nodes,
+            width,
+            left,
+            apply(BinaryOp::Minus, width, 0, right),
+        )),
+        BinaryOp::Xor => {
             if right != ones(width) {
                 return None;
             }
             Some(negation(nodes, width, left))
         }
-        Op::Equal => equality(nodes, false, width, left, right),
-        Op::NotEqual => equality(nodes, true, width, left, right),
-        Op::ShiftLeft | Op::ShiftRight | Op::ShiftSigned => shifted_out(op, width, left, right),
+        BinaryOp::Equal => equality(nodes, false, width, left, right),
+        BinaryOp::NotEqual => equality(nodes, true, width, left, right),
+        BinaryOp::ShiftLeft | BinaryOp::ShiftRight | BinaryOp::ShiftSigned => shifted_out(
+            op, width, left, right,
+        ),
         _ => to_constant(nodes, op, width, left, right),
     }
 }
 
 /// The bit that an operator gives between each word and itself.
-fn bit_of_itself(op: Op) -> Option<bool>
-    ensures { IfSome result (λ b. (w a : ℕ) → a < 2 ^ w → operate (op_of op) w a a ≡ words.bit b) }
+fn bit_of_itself(op: BinaryOp) -> Option<bool>
+    ensures { IfSome result (λ b. (w a : ℕ) → a < 2 ^ w → operate (binary_of op) w a a ≡ words.bit b) }
 {
     match op {
-        Op::Xor => Some(false),
-        Op::Minus => Some(false),
-        Op::Equal => Some(true),
-        Op::NotEqual => Some(false),
-        Op::Less => Some(false),
-        Op::LessEqual => Some(true),
-        Op::SignedLess => Some(false),
-        Op::SignedLessEqual => Some(true),
+        BinaryOp::Xor => Some(false),
+        BinaryOp::Minus => Some(false),
+        BinaryOp::Equal => Some(true),
+        BinaryOp::NotEqual => Some(false),
+        BinaryOp::Less => Some(false),
+        BinaryOp::LessEqual => Some(true),
+        BinaryOp::SignedLess => Some(false),
+        BinaryOp::SignedLessEqual => Some(true),
         _ => None,
     }
 }
 
 /// An operator between a word and itself.
-fn with_itself(nodes: &[Node], op: Op, width: u8, term: Term) -> Option<Folded>
-    requires typed { AreTyped (nodes_of nodes.now) }
+fn with_itself(nodes: &Nodes, op: BinaryOp, width: u8, term: Term) -> Option<Folded>
     requires some { IsWidth width }
-    requires place { HasWidth (nodes_of nodes.now) width term.0 }
-    ensures { IfSome result (λ f. IsWordFold (nodes_of nodes.now) (result_width (op_of op) width)
-        (λ x. operate (op_of op) width (term_word x (nodes_of nodes.now) term.0) (term_word x (nodes_of nodes.now) term.0)) 0 f) }
+    requires place { HasWidth (terms nodes.now) width term.0 }
+    ensures { IfSome result (λ f. IsWordFold (terms nodes.now) (result_width (binary_of op) width)
+        (λ x. operate (binary_of op) width (term_word x (terms nodes.now) term.0) (term_word x (terms nodes.now) term.0)) 0 f) }
 {
-    if let Op::And = op {
+    if let BinaryOp::And = op {
         return Some(Folded::Old(term));
     }
-    if let Op::Or = op {
+    if let BinaryOp::Or = op {
         return Some(Folded::Old(term));
     }
     let bit = bit_of_itself(op)?;
@@ -395,13 +394,12 @@ fn with_itself(nodes: &[Node], op: Op, width: u8, term: Term) -> Option<Folded>
 }
 
 /// Whether two sums with one base are equal, or are not.
-fn sums(nodes: &[Node], differs: bool, width: u8, left: Term, right: Term) -> Option<Folded>
-    requires typed { AreTyped (nodes_of nodes.now) }
+fn sums(nodes: &Nodes, differs: bool, width: u8, left: Term, right: Term) -> Option<Folded>
     requires some { IsWidth width }
-    requires left { HasWidth (nodes_of nodes.now) width left.0 }
-    requires right { HasWidth (nodes_of nodes.now) width right.0 }
-    ensures { IfSome result (λ f. IsWordFold (nodes_of nodes.now) 1
-        (λ x. words.bit (words.differ differs (term_word x (nodes_of nodes.now) left.0 == term_word x (nodes_of nodes.now) right.0))) 0 f) }
+    requires left { HasWidth (terms nodes.now) width left.0 }
+    requires right { HasWidth (terms nodes.now) width right.0 }
+    ensures { IfSome result (λ f. IsWordFold (terms nodes.now) 1
+        (λ x. words.bit (words.differ differs (term_word x (terms nodes.now) left.0 == term_word x (terms nodes.now) right.0))) 0 f) }
 {
     let a = parts(nodes, width, left);
     let b = parts(nodes, width, right);
@@ -412,13 +410,12 @@ fn sums(nodes: &[Node], differs: bool, width: u8, left: Term, right: Term) -> Op
 }
 
 /// An operator between two words.
-fn between(nodes: &[Node], op: Op, width: u8, left: Term, right: Term) -> Option<Folded>
-    requires typed { AreTyped (nodes_of nodes.now) }
+fn between(nodes: &Nodes, op: BinaryOp, width: u8, left: Term, right: Term) -> Option<Folded>
     requires some { IsWidth width }
-    requires left { HasWidth (nodes_of nodes.now) width left.0 }
-    requires right { HasWidth (nodes_of nodes.now) width right.0 }
-    ensures { IfSome result (λ f. IsWordFold (nodes_of nodes.now) (result_width (op_of op) width)
-        (λ x. operate (op_of op) width (term_word x (nodes_of nodes.now) left.0) (term_word x (nodes_of nodes.now) right.0)) (op_weight (op_of op) width) f) }
+    requires left { HasWidth (terms nodes.now) width left.0 }
+    requires right { HasWidth (terms nodes.now) width right.0 }
+    ensures { IfSome result (λ f. IsWordFold (terms nodes.now) (result_width (binary_of op) width)
+        (λ x. operate (binary_of op) width (term_word x (terms nodes.now) left.0) (term_word x (terms nodes.now) right.0)) (op_weight (binary_of op) width) f) }
 {
     if left.0 == right.0 {
         return with_itself(nodes, op, width, left);
@@ -427,15 +424,15 @@ fn between(nodes: &[Node], op: Op, width: u8, left: Term, right: Term) -> Option
         return from_constant(nodes, op, width, value, right);
     }
     match op {
-        Op::Equal => sums(nodes, false, width, left, right),
-        Op::NotEqual => sums(nodes, true, width, left, right),
-        Op::And => {
+        BinaryOp::Equal => sums(nodes, false, width, left, right),
+        BinaryOp::NotEqual => sums(nodes, true, width, left, right),
+        BinaryOp::And => {
             if width != 1 {
                 return None;
             }
             conditions::conjunction(nodes, left, right)
         }
-        Op::Or => {
+        BinaryOp::Or => {
             if width != 1 {
                 return None;
             }
@@ -446,14 +443,13 @@ fn between(nodes: &[Node], op: Op, width: u8, left: Term, right: Term) -> Option
 }
 
 /// An operator on two words whose operands stand in their order.
-fn in_order(nodes: &[Node], op: Op, width: u8, left: Term, right: Term) -> Folded
-    requires typed { AreTyped (nodes_of nodes.now) }
+fn in_order(nodes: &Nodes, op: BinaryOp, width: u8, left: Term, right: Term) -> Folded
     requires some { IsWidth width }
-    requires left { HasWidth (nodes_of nodes.now) width left.0 }
-    requires right { HasWidth (nodes_of nodes.now) width right.0 }
-    ensures { IsWordFold (nodes_of nodes.now) (result_width (op_of op) width)
-        (λ x. operate (op_of op) width (term_word x (nodes_of nodes.now) left.0) (term_word x (nodes_of nodes.now) right.0))
-        (op_weight (op_of op) width) result }
+    requires left { HasWidth (terms nodes.now) width left.0 }
+    requires right { HasWidth (terms nodes.now) width right.0 }
+    ensures { IsWordFold (terms nodes.now) (result_width (binary_of op) width)
+        (λ x. operate (binary_of op) width (term_word x (terms nodes.now) left.0) (term_word x (terms nodes.now) right.0))
+        (op_weight (binary_of op) width) result }
 {
     let kept = Folded::New(Node::Binary {
         op,
@@ -480,14 +476,13 @@ fn in_order(nodes: &[Node], op: Op, width: u8, left: Term, right: Term) -> Folde
 }
 
 /// An operator on two words.
-pub fn binary(nodes: &[Node], op: Op, width: u8, left: Term, right: Term) -> Folded
-    requires typed { AreTyped (nodes_of nodes.now) }
+pub fn binary(nodes: &Nodes, op: BinaryOp, width: u8, left: Term, right: Term) -> Folded
     requires some { IsWidth width }
-    requires left { HasWidth (nodes_of nodes.now) width left.0 }
-    requires right { HasWidth (nodes_of nodes.now) width right.0 }
-    ensures { IsWordFold (nodes_of nodes.now) (result_width (op_of op) width)
-        (λ x. operate (op_of op) width (term_word x (nodes_of nodes.now) left.0) (term_word x (nodes_of nodes.now) right.0))
-        (op_weight (op_of op) width) result }
+    requires left { HasWidth (terms nodes.now) width left.0 }
+    requires right { HasWidth (terms nodes.now) width right.0 }
+    ensures { IsWordFold (terms nodes.now) (result_width (binary_of op) width)
+        (λ x. operate (binary_of op) width (term_word x (terms nodes.now) left.0) (term_word x (terms nodes.now) right.0))
+        (op_weight (binary_of op) width) result }
 {
     let (first, second) = ordered(nodes, op, left, right);
     in_order(nodes, op, width, first, second)

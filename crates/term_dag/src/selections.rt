@@ -1,11 +1,12 @@
 //! Folds of selections.
 
 ghost use Rattle.std.specs.Prelude.{◌≡◌, ℕ, ◌<◌, length, if◌then◌else◌};
-ghost use Rattle.term_spec.specs.Terms.{TermReading, InRange, term_value, term_word, JoinNode, select, HasWidth, IsWidth, AreTyped};
-ghost use Rattle.term_dag.specs.Nodes.{nodes_of};
+ghost use Rattle.term_spec.specs.Terms.{TermReading, InRange, term_value, term_word, JoinNode, select, HasWidth, IsWidth};
+ghost use Rattle.term_dag.specs.Lists.{terms};
 ghost use Rattle.term_dag.specs.Folds.{IsFold, IsSide, IsWordFold};
 
 use crate::folds::{Folded, constant, look};
+use crate::typed::Nodes;
 use crate::{Node, Term};
 
 /// One of two terms.
@@ -16,11 +17,10 @@ fn picked(holds: bool, when_true: Term, when_false: Term) -> Term
 }
 
 /// The term that a side of a selection has where its condition holds, or where it does not: of a selection by the same condition its own side.
-fn side(nodes: &[Node], width: u8, condition: Term, term: Term, holds: bool) -> Term
-    requires typed { AreTyped (nodes_of nodes.now) }
-    requires condition { HasWidth (nodes_of nodes.now) 1 condition.0 }
-    requires place { HasWidth (nodes_of nodes.now) width term.0 }
-    ensures { IsSide (nodes_of nodes.now) width condition.0 term.0 holds result.0 }
+fn side(nodes: &Nodes, width: u8, condition: Term, term: Term, holds: bool) -> Term
+    requires condition { HasWidth (terms nodes.now) 1 condition.0 }
+    requires place { HasWidth (terms nodes.now) width term.0 }
+    ensures { IsSide (terms nodes.now) width condition.0 term.0 holds result.0 }
 {
     match look(nodes, term) {
         Node::Select {
@@ -49,14 +49,13 @@ fn side(nodes: &[Node], width: u8, condition: Term, term: Term, holds: bool) -> 
 }
 
 /// A selection between two terms that differ, by a condition that is no constant and no negation.
-fn chosen(nodes: &[Node], width: u8, condition: Term, when_true: Term, when_false: Term) -> Folded
-    requires typed { AreTyped (nodes_of nodes.now) }
+fn chosen(nodes: &Nodes, width: u8, condition: Term, when_true: Term, when_false: Term) -> Folded
     requires some { IsWidth width }
-    requires condition { HasWidth (nodes_of nodes.now) 1 condition.0 }
-    requires when_true { HasWidth (nodes_of nodes.now) width when_true.0 }
-    requires when_false { HasWidth (nodes_of nodes.now) width when_false.0 }
-    ensures { IsWordFold (nodes_of nodes.now) width (λ x. select (term_word x (nodes_of nodes.now) condition.0) (term_word x (nodes_of nodes.now) when_true.0)
-        (term_word x (nodes_of nodes.now) when_false.0)) width result }
+    requires condition { HasWidth (terms nodes.now) 1 condition.0 }
+    requires when_true { HasWidth (terms nodes.now) width when_true.0 }
+    requires when_false { HasWidth (terms nodes.now) width when_false.0 }
+    ensures { IsWordFold (terms nodes.now) width (λ x. select (term_word x (terms nodes.now) condition.0) (term_word x (terms nodes.now) when_true.0)
+        (term_word x (terms nodes.now) when_false.0)) width result }
 {
     let kept = Folded::New(Node::Select {
         width,
@@ -91,14 +90,13 @@ fn chosen(nodes: &[Node], width: u8, condition: Term, when_true: Term, when_fals
 }
 
 /// A selection by a condition that is no negation.
-fn positive(nodes: &[Node], width: u8, condition: Term, when_true: Term, when_false: Term) -> Folded
-    requires typed { AreTyped (nodes_of nodes.now) }
+fn positive(nodes: &Nodes, width: u8, condition: Term, when_true: Term, when_false: Term) -> Folded
     requires some { IsWidth width }
-    requires condition { HasWidth (nodes_of nodes.now) 1 condition.0 }
-    requires when_true { HasWidth (nodes_of nodes.now) width when_true.0 }
-    requires when_false { HasWidth (nodes_of nodes.now) width when_false.0 }
-    ensures { IsWordFold (nodes_of nodes.now) width (λ x. select (term_word x (nodes_of nodes.now) condition.0) (term_word x (nodes_of nodes.now) when_true.0)
-        (term_word x (nodes_of nodes.now) when_false.0)) width result }
+    requires condition { HasWidth (terms nodes.now) 1 condition.0 }
+    requires when_true { HasWidth (terms nodes.now) width when_true.0 }
+    requires when_false { HasWidth (terms nodes.now) width when_false.0 }
+    ensures { IsWordFold (terms nodes.now) width (λ x. select (term_word x (terms nodes.now) condition.0) (term_word x (terms nodes.now) when_true.0)
+        (term_word x (terms nodes.now) when_false.0)) width result }
 {
     if let Some(bit) = constant(nodes, condition) {
         return Folded::Old(if bit > 0 { when_true } else { when_false });
@@ -113,19 +111,18 @@ fn positive(nodes: &[Node], width: u8, condition: Term, when_true: Term, when_fa
 
 /// One of two words.
 pub fn select(
-    nodes: &[Node],
+    nodes: &Nodes,
     width: u8,
     condition: Term,
     when_true: Term,
     when_false: Term,
 ) -> Folded
-    requires typed { AreTyped (nodes_of nodes.now) }
     requires some { IsWidth width }
-    requires condition { HasWidth (nodes_of nodes.now) 1 condition.0 }
-    requires when_true { HasWidth (nodes_of nodes.now) width when_true.0 }
-    requires when_false { HasWidth (nodes_of nodes.now) width when_false.0 }
-    ensures { IsWordFold (nodes_of nodes.now) width (λ x. select (term_word x (nodes_of nodes.now) condition.0) (term_word x (nodes_of nodes.now) when_true.0)
-        (term_word x (nodes_of nodes.now) when_false.0)) width result }
+    requires condition { HasWidth (terms nodes.now) 1 condition.0 }
+    requires when_true { HasWidth (terms nodes.now) width when_true.0 }
+    requires when_false { HasWidth (terms nodes.now) width when_false.0 }
+    ensures { IsWordFold (terms nodes.now) width (λ x. select (term_word x (terms nodes.now) condition.0) (term_word x (terms nodes.now) when_true.0)
+        (term_word x (terms nodes.now) when_false.0)) width result }
 {
     match look(nodes, condition) {
         Node::Not { term, .. } => positive(nodes, width, term, when_false, when_true),
@@ -134,12 +131,11 @@ pub fn select(
 }
 
 /// A join of two memories by a condition that is no negation.
-fn positive_join(nodes: &[Node], condition: Term, when_true: Term, when_false: Term) -> Folded
-    requires typed { AreTyped (nodes_of nodes.now) }
-    requires condition { HasWidth (nodes_of nodes.now) 1 condition.0 }
-    requires when_true { HasWidth (nodes_of nodes.now) 0 when_true.0 }
-    requires when_false { HasWidth (nodes_of nodes.now) 0 when_false.0 }
-    ensures { IsFold (nodes_of nodes.now) (JoinNode condition.0 when_true.0 when_false.0) result }
+fn positive_join(nodes: &Nodes, condition: Term, when_true: Term, when_false: Term) -> Folded
+    requires condition { HasWidth (terms nodes.now) 1 condition.0 }
+    requires when_true { HasWidth (terms nodes.now) 0 when_true.0 }
+    requires when_false { HasWidth (terms nodes.now) 0 when_false.0 }
+    ensures { IsFold (terms nodes.now) (JoinNode condition.0 when_true.0 when_false.0) result }
 {
     if let Some(bit) = constant(nodes, condition) {
         return Folded::Old(if bit > 0 { when_true } else { when_false });
@@ -157,12 +153,11 @@ fn positive_join(nodes: &[Node], condition: Term, when_true: Term, when_false: T
 }
 
 /// One of two memories.
-pub fn join(nodes: &[Node], condition: Term, when_true: Term, when_false: Term) -> Folded
-    requires typed { AreTyped (nodes_of nodes.now) }
-    requires condition { HasWidth (nodes_of nodes.now) 1 condition.0 }
-    requires when_true { HasWidth (nodes_of nodes.now) 0 when_true.0 }
-    requires when_false { HasWidth (nodes_of nodes.now) 0 when_false.0 }
-    ensures { IsFold (nodes_of nodes.now) (JoinNode condition.0 when_true.0 when_false.0) result }
+pub fn join(nodes: &Nodes, condition: Term, when_true: Term, when_false: Term) -> Folded
+    requires condition { HasWidth (terms nodes.now) 1 condition.0 }
+    requires when_true { HasWidth (terms nodes.now) 0 when_true.0 }
+    requires when_false { HasWidth (terms nodes.now) 0 when_false.0 }
+    ensures { IsFold (terms nodes.now) (JoinNode condition.0 when_true.0 when_false.0) result }
 {
     match look(nodes, condition) {
         Node::Not { term, .. } => positive_join(nodes, term, when_false, when_true),

@@ -2,12 +2,15 @@
 
 ghost use Rattle.std.specs.Prelude.{◌≡◌, ◌+◌, ◌-◌, ◌<◌, ◌≤◌, length, IfSome};
 ghost use Rattle.word_spec.specs.Words as words;
-ghost use Rattle.term_spec.specs.Terms.{term_word, extend, node_at, width_of, HasWidth, IsWidth, AreTyped};
-ghost use Rattle.term_dag.specs.Nodes.{node_of, nodes_of};
+ghost use Rattle.term_spec.specs.Terms.{term_word, extend, node_at, width_of, HasWidth, IsWidth};
+ghost use Rattle.term_dag.specs.Nodes.{node_of};
+ghost use Rattle.term_dag.specs.Lists.{terms};
 ghost use Rattle.term_dag.specs.Folds.{AreNeighbours, IsNodeWord, IsSlice, IsWordFold};
 
 use crate::folds::{Folded, constant, look, width_of_node};
-use crate::{Node, Op, Term};
+use crate::typed::Nodes;
+use crate::{Node, Term};
+use bil_ast::BinaryOp;
 use bv_word::Word;
 
 /// How many operands deep bits are looked for.
@@ -42,12 +45,11 @@ fn higher(hi: u8, lo: u8, width: u8, amount: u64, term: Term) -> Option<Slice>
 }
 
 /// The same bits of the word that is shifted, where the term is a shift by a constant that moves them all.
-fn unshifted(nodes: &[Node], hi: u8, lo: u8, term: Term) -> Option<Slice>
-    requires typed { AreTyped (nodes_of nodes.now) }
-    requires within { term.0 < length (nodes_of nodes.now) }
+fn unshifted(nodes: &Nodes, hi: u8, lo: u8, term: Term) -> Option<Slice>
+    requires within { term.0 < length (terms nodes.now) }
     requires order { lo ≤ hi }
-    requires fits { hi < width_of (node_at (nodes_of nodes.now) term.0) }
-    ensures { IfSome result (λ s. IsSlice (nodes_of nodes.now) hi lo term.0 s.hi s.lo s.term.0) }
+    requires fits { hi < width_of (node_at (terms nodes.now) term.0) }
+    ensures { IfSome result (λ s. IsSlice (terms nodes.now) hi lo term.0 s.hi s.lo s.term.0) }
 {
     let Node::Binary {
         op,
@@ -60,7 +62,7 @@ fn unshifted(nodes: &[Node], hi: u8, lo: u8, term: Term) -> Option<Slice>
     };
     let amount = constant(nodes, right)?;
     match op {
-        Op::ShiftLeft => {
+        BinaryOp::ShiftLeft => {
             if amount > lo as u64 {
                 return None;
             }
@@ -70,19 +72,18 @@ fn unshifted(nodes: &[Node], hi: u8, lo: u8, term: Term) -> Option<Slice>
                 term: left,
             })
         }
-        Op::ShiftRight => higher(hi, lo, width, amount, left),
-        Op::ShiftSigned => higher(hi, lo, width, amount, left),
+        BinaryOp::ShiftRight => higher(hi, lo, width, amount, left),
+        BinaryOp::ShiftSigned => higher(hi, lo, width, amount, left),
         _ => None,
     }
 }
 
 /// The same bits of an operand, where the term has them from one.
-fn inner(nodes: &[Node], hi: u8, lo: u8, term: Term) -> Option<Slice>
-    requires typed { AreTyped (nodes_of nodes.now) }
-    requires within { term.0 < length (nodes_of nodes.now) }
+fn inner(nodes: &Nodes, hi: u8, lo: u8, term: Term) -> Option<Slice>
+    requires within { term.0 < length (terms nodes.now) }
     requires order { lo ≤ hi }
-    requires fits { hi < width_of (node_at (nodes_of nodes.now) term.0) }
-    ensures { IfSome result (λ s. IsSlice (nodes_of nodes.now) hi lo term.0 s.hi s.lo s.term.0) }
+    requires fits { hi < width_of (node_at (terms nodes.now) term.0) }
+    ensures { IfSome result (λ s. IsSlice (terms nodes.now) hi lo term.0 s.hi s.lo s.term.0) }
 {
     match look(nodes, term) {
         Node::Extract { lo: from, term, .. } => Some(Slice {
@@ -123,12 +124,11 @@ fn inner(nodes: &[Node], hi: u8, lo: u8, term: Term) -> Option<Slice>
 }
 
 /// The same bits of an operand, of its operand, and so on, but no deeper than `DEEPEST`, so that the time of a call is bounded.
-fn innermost(nodes: &[Node], hi: u8, lo: u8, term: Term) -> Slice
-    requires typed { AreTyped (nodes_of nodes.now) }
-    requires within { term.0 < length (nodes_of nodes.now) }
+fn innermost(nodes: &Nodes, hi: u8, lo: u8, term: Term) -> Slice
+    requires within { term.0 < length (terms nodes.now) }
     requires order { lo ≤ hi }
-    requires fits { hi < width_of (node_at (nodes_of nodes.now) term.0) }
-    ensures { IsSlice (nodes_of nodes.now) hi lo term.0 result.hi result.lo result.term.0 }
+    requires fits { hi < width_of (node_at (terms nodes.now) term.0) }
+    ensures { IsSlice (terms nodes.now) hi lo term.0 result.hi result.lo result.term.0 }
 {
     let mut slice = Slice { hi, lo, term };
     for _step in 0..DEEPEST {
@@ -141,12 +141,11 @@ fn innermost(nodes: &[Node], hi: u8, lo: u8, term: Term) -> Slice
 }
 
 /// Bits of a term, where no operand is looked at for them.
-fn outer(nodes: &[Node], hi: u8, lo: u8, term: Term) -> Folded
-    requires typed { AreTyped (nodes_of nodes.now) }
-    requires within { term.0 < length (nodes_of nodes.now) }
+fn outer(nodes: &Nodes, hi: u8, lo: u8, term: Term) -> Folded
+    requires within { term.0 < length (terms nodes.now) }
     requires order { lo ≤ hi }
-    requires fits { hi < width_of (node_at (nodes_of nodes.now) term.0) }
-    ensures { IsWordFold (nodes_of nodes.now) (hi + 1 - lo) (λ x. words.bits hi lo (term_word x (nodes_of nodes.now) term.0)) 0 result }
+    requires fits { hi < width_of (node_at (terms nodes.now) term.0) }
+    ensures { IsWordFold (terms nodes.now) (hi + 1 - lo) (λ x. words.bits hi lo (term_word x (terms nodes.now) term.0)) 0 result }
 {
     let node = look(nodes, term);
     let width = width_of_node(nodes, node);
@@ -175,23 +174,21 @@ fn outer(nodes: &[Node], hi: u8, lo: u8, term: Term) -> Folded
 }
 
 /// The bits of a word from `hi` down to `lo`.
-pub fn extract(nodes: &[Node], hi: u8, lo: u8, term: Term) -> Folded
-    requires typed { AreTyped (nodes_of nodes.now) }
-    requires within { term.0 < length (nodes_of nodes.now) }
+pub fn extract(nodes: &Nodes, hi: u8, lo: u8, term: Term) -> Folded
+    requires within { term.0 < length (terms nodes.now) }
     requires order { lo ≤ hi }
-    requires fits { hi < width_of (node_at (nodes_of nodes.now) term.0) }
-    ensures { IsWordFold (nodes_of nodes.now) (hi + 1 - lo) (λ x. words.bits hi lo (term_word x (nodes_of nodes.now) term.0)) 0 result }
+    requires fits { hi < width_of (node_at (terms nodes.now) term.0) }
+    ensures { IsWordFold (terms nodes.now) (hi + 1 - lo) (λ x. words.bits hi lo (term_word x (terms nodes.now) term.0)) 0 result }
 {
     let slice = innermost(nodes, hi, lo, term);
     outer(nodes, slice.hi, slice.lo, slice.term)
 }
 
 /// The bits of one term, if two terms are neighbouring bits of it.
-fn neighbours(nodes: &[Node], upper: Term, lower: Term) -> Option<Slice>
-    requires typed { AreTyped (nodes_of nodes.now) }
-    requires upper { upper.0 < length (nodes_of nodes.now) }
-    requires lower { lower.0 < length (nodes_of nodes.now) }
-    ensures { IfSome result (λ s. AreNeighbours (nodes_of nodes.now) upper.0 lower.0 s.hi s.lo s.term.0) }
+fn neighbours(nodes: &Nodes, upper: Term, lower: Term) -> Option<Slice>
+    requires upper { upper.0 < length (terms nodes.now) }
+    requires lower { lower.0 < length (terms nodes.now) }
+    ensures { IfSome result (λ s. AreNeighbours (terms nodes.now) upper.0 lower.0 s.hi s.lo s.term.0) }
 {
     let Node::Extract {
         hi,
@@ -216,15 +213,13 @@ fn neighbours(nodes: &[Node], upper: Term, lower: Term) -> Option<Slice>
 }
 
 /// A word above another.
-pub fn concat(nodes: &[Node], high: u8, low: u8, upper: Term, lower: Term) -> Folded
-    requires typed { AreTyped (nodes_of nodes.now) }
+pub fn concat(nodes: &Nodes, high: u8, low: u8, upper: Term, lower: Term) -> Folded
     requires some_high { IsWidth high }
     requires some_low { IsWidth low }
     requires few { high + low ≤ 64 }
-    requires upper { HasWidth (nodes_of nodes.now) high upper.0 }
-    requires lower { HasWidth (nodes_of nodes.now) low lower.0 }
-    ensures { IsWordFold (nodes_of nodes.now) (high + low) (λ x. words.concat low (term_word x (nodes_of nodes.now) upper.0)
-        (term_word x (nodes_of nodes.now) lower.0)) 0 result }
+    requires upper { HasWidth (terms nodes.now) high upper.0 }
+    requires lower { HasWidth (terms nodes.now) low lower.0 }
+    ensures { IsWordFold (terms nodes.now) (high + low) (λ x. words.concat low (term_word x (terms nodes.now) upper.0) (term_word x (terms nodes.now) lower.0)) 0 result }
 {
     if let Some(slice) = neighbours(nodes, upper, lower) {
         return extract(nodes, slice.hi, slice.lo, slice.term);
@@ -251,13 +246,12 @@ pub fn concat(nodes: &[Node], high: u8, low: u8, upper: Term, lower: Term) -> Fo
 }
 
 /// An extension of an extension, where one extension does for both: with the sign twice, or with zeros, above which there is no sign.
-fn further(nodes: &[Node], signed: bool, from: u8, to: u8, term: Term) -> Option<Node>
-    requires typed { AreTyped (nodes_of nodes.now) }
+fn further(nodes: &Nodes, signed: bool, from: u8, to: u8, term: Term) -> Option<Node>
     requires some { IsWidth from }
     requires more { from ≤ to }
     requires few { to ≤ 64 }
-    requires place { HasWidth (nodes_of nodes.now) from term.0 }
-    ensures { IfSome result (λ m. IsNodeWord (nodes_of nodes.now) to (λ x. extend signed from to (term_word x (nodes_of nodes.now) term.0)) 0 (node_of m)) }
+    requires place { HasWidth (terms nodes.now) from term.0 }
+    ensures { IfSome result (λ m. IsNodeWord (terms nodes.now) to (λ x. extend signed from to (term_word x (terms nodes.now) term.0)) 0 (node_of m)) }
 {
     let Node::Extend {
         signed: before,
@@ -290,13 +284,12 @@ fn further(nodes: &[Node], signed: bool, from: u8, to: u8, term: Term) -> Option
 }
 
 /// A word in more bits.
-pub fn extend(nodes: &[Node], signed: bool, from: u8, to: u8, term: Term) -> Folded
-    requires typed { AreTyped (nodes_of nodes.now) }
+pub fn extend(nodes: &Nodes, signed: bool, from: u8, to: u8, term: Term) -> Folded
     requires some { IsWidth from }
     requires more { from ≤ to }
     requires few { to ≤ 64 }
-    requires place { HasWidth (nodes_of nodes.now) from term.0 }
-    ensures { IsWordFold (nodes_of nodes.now) to (λ x. extend signed from to (term_word x (nodes_of nodes.now) term.0)) 0 result }
+    requires place { HasWidth (terms nodes.now) from term.0 }
+    ensures { IsWordFold (terms nodes.now) to (λ x. extend signed from to (term_word x (terms nodes.now) term.0)) 0 result }
 {
     if from == to {
         return Folded::Old(term);

@@ -4,12 +4,14 @@ ghost use Rattle.std.specs.Prelude.{ℕ, ◌≡◌, ◌%◌, ◌*◌, ◌+◌, �
 ghost use Rattle.word_spec.specs.Words.{add};
 ghost use Rattle.word_spec.specs.Memory as memory;
 ghost use Rattle.word_spec.specs.Memory.{endian};
-ghost use Rattle.term_spec.specs.Terms.{TermNode, term_value, term_word, HasWidth, IsBytes, IsTypedOver, AreTyped};
-ghost use Rattle.term_dag.specs.Nodes.{IsWordInput, node_of, nodes_of};
+ghost use Rattle.term_spec.specs.Terms.{TermNode, term_value, term_word, HasWidth, IsBytes, IsTypedOver};
+ghost use Rattle.term_dag.specs.Nodes.{IsWordInput, node_of};
+ghost use Rattle.term_dag.specs.Lists.{terms};
 ghost use Rattle.term_dag.specs.Folds.{value_over};
 ghost use Rattle.term_dag.specs.Readings.{AreWords, part_in, reading_of, reading_of_parts};
 
 use crate::folds::{apply, look, width_of_node};
+use crate::typed::Nodes;
 use crate::{Node, Term};
 use bv_word::Word;
 use byte_mem::{Bytes32, Endian};
@@ -106,11 +108,10 @@ fn stored_byte(number: u64, bytes: u8, big: bool, place: u8) -> u8
 }
 
 /// The byte at an address of a memory; 0 of a word.
-pub fn byte(nodes: &[Node], words: &[u64], parts: &Parts, term: Term, address: u32) -> u8
-    requires typed { AreTyped (nodes_of nodes.now) }
-    requires words { AreWords (reading_of_parts parts.now) (nodes_of nodes.now) words.now }
-    requires within { term.0 < length (nodes_of nodes.now) }
-    ensures { result ≡ (term_value (reading_of_parts parts.now) (nodes_of nodes.now) term.0).bytes address }
+pub fn byte(nodes: &Nodes, words: &[u64], parts: &Parts, term: Term, address: u32) -> u8
+    requires words { AreWords (reading_of_parts parts.now) (terms nodes.now) words.now }
+    requires within { term.0 < length (terms nodes.now) }
+    ensures { result ≡ (term_value (reading_of_parts parts.now) (terms nodes.now) term.0).bytes address }
 {
     let mut at = term;
     loop {
@@ -160,18 +161,17 @@ pub fn byte(nodes: &[Node], words: &[u64], parts: &Parts, term: Term, address: u
 /// The number of the bytes of a memory from an address on, the lowest first.
 #[tactic(auto, using(byte_mem::proofs::Numbers::next_power, byte_mem::proofs::Numbers::low_power))]
 fn lowest_first(
-    nodes: &[Node],
+    nodes: &Nodes,
     words: &[u64],
     parts: &Parts,
     term: Term,
     first: u32,
     count: u8,
 ) -> u64
-    requires typed { AreTyped (nodes_of nodes.now) }
-    requires words { AreWords (reading_of_parts parts.now) (nodes_of nodes.now) words.now }
-    requires within { term.0 < length (nodes_of nodes.now) }
+    requires words { AreWords (reading_of_parts parts.now) (terms nodes.now) words.now }
+    requires within { term.0 < length (terms nodes.now) }
     requires few { count ≤ 8 }
-    ensures number { result ≡ memory.little count (λ i. (term_value (reading_of_parts parts.now) (nodes_of nodes.now) term.0).bytes (add 32 first i)) }
+    ensures number { result ≡ memory.little count (λ i. (term_value (reading_of_parts parts.now) (terms nodes.now) term.0).bytes (add 32 first i)) }
     ensures below { result < 256 ^ count }
 {
     let mut number = 0u64;
@@ -185,18 +185,17 @@ fn lowest_first(
 /// The number of the bytes of a memory from an address on, the highest first.
 #[tactic(auto, using(byte_mem::proofs::Numbers::next_power, byte_mem::proofs::Numbers::low_power))]
 fn highest_first(
-    nodes: &[Node],
+    nodes: &Nodes,
     words: &[u64],
     parts: &Parts,
     term: Term,
     first: u32,
     count: u8,
 ) -> u64
-    requires typed { AreTyped (nodes_of nodes.now) }
-    requires words { AreWords (reading_of_parts parts.now) (nodes_of nodes.now) words.now }
-    requires within { term.0 < length (nodes_of nodes.now) }
+    requires words { AreWords (reading_of_parts parts.now) (terms nodes.now) words.now }
+    requires within { term.0 < length (terms nodes.now) }
     requires few { count ≤ 8 }
-    ensures number { result ≡ memory.big count (λ i. (term_value (reading_of_parts parts.now) (nodes_of nodes.now) term.0).bytes (add 32 first i)) }
+    ensures number { result ≡ memory.big count (λ i. (term_value (reading_of_parts parts.now) (terms nodes.now) term.0).bytes (add 32 first i)) }
     ensures below { result < 256 ^ count }
 {
     let mut number = 0u64;
@@ -208,11 +207,10 @@ fn highest_first(
 }
 
 /// The word of a term.
-fn operand(nodes: &[Node], words: &[u64], parts: &Parts, width: u8, term: Term) -> u64
-    requires typed { AreTyped (nodes_of nodes.now) }
-    requires words { AreWords (reading_of_parts parts.now) (nodes_of nodes.now) words.now }
-    requires place { HasWidth (nodes_of nodes.now) width term.0 }
-    ensures value { result ≡ term_word (reading_of_parts parts.now) (nodes_of nodes.now) term.0 }
+fn operand(nodes: &Nodes, words: &[u64], parts: &Parts, width: u8, term: Term) -> u64
+    requires words { AreWords (reading_of_parts parts.now) (terms nodes.now) words.now }
+    requires place { HasWidth (terms nodes.now) width term.0 }
+    ensures value { result ≡ term_word (reading_of_parts parts.now) (terms nodes.now) term.0 }
     ensures below { result < 2 ^ width }
 {
     words[term.0 as usize]
@@ -235,7 +233,7 @@ fn input(parts: &Parts, node: Node) -> u64
 
 /// The bytes that a node loads, as a number.
 fn loaded(
-    nodes: &[Node],
+    nodes: &Nodes,
     words: &[u64],
     parts: &Parts,
     bytes: u8,
@@ -243,13 +241,12 @@ fn loaded(
     from: Term,
     address: Term,
 ) -> u64
-    requires typed { AreTyped (nodes_of nodes.now) }
-    requires words { AreWords (reading_of_parts parts.now) (nodes_of nodes.now) words.now }
+    requires words { AreWords (reading_of_parts parts.now) (terms nodes.now) words.now }
     requires some { IsBytes bytes }
-    requires from { HasWidth (nodes_of nodes.now) 0 from.0 }
-    requires address { HasWidth (nodes_of nodes.now) 32 address.0 }
-    ensures { result ≡ memory.load (endian big) bytes (term_value (reading_of_parts parts.now) (nodes_of nodes.now) from.0).bytes
-        (term_word (reading_of_parts parts.now) (nodes_of nodes.now) address.0) }
+    requires from { HasWidth (terms nodes.now) 0 from.0 }
+    requires address { HasWidth (terms nodes.now) 32 address.0 }
+    ensures { result ≡ memory.load (endian big) bytes (term_value (reading_of_parts parts.now) (terms nodes.now) from.0).bytes
+        (term_word (reading_of_parts parts.now) (terms nodes.now) address.0) }
 {
     let first = operand(nodes, words, parts, 32, address) as u32;
     if big {
@@ -260,11 +257,10 @@ fn loaded(
 }
 
 /// The word of a node over terms whose words are given; 0 of a memory.
-fn word_of(nodes: &[Node], words: &[u64], parts: &Parts, node: Node) -> u64
-    requires typed { AreTyped (nodes_of nodes.now) }
-    requires words { AreWords (reading_of_parts parts.now) (nodes_of nodes.now) words.now }
-    requires over { IsTypedOver (nodes_of nodes.now) (node_of node) }
-    ensures { result ≡ (value_over (nodes_of nodes.now) (node_of node) (reading_of_parts parts.now)).word }
+fn word_of(nodes: &Nodes, words: &[u64], parts: &Parts, node: Node) -> u64
+    requires words { AreWords (reading_of_parts parts.now) (terms nodes.now) words.now }
+    requires over { IsTypedOver (terms nodes.now) (node_of node) }
+    ensures { result ≡ (value_over (terms nodes.now) (node_of node) (reading_of_parts parts.now)).word }
 {
     match node {
         Node::Register { .. } => input(parts, node),
@@ -339,14 +335,17 @@ fn word_of(nodes: &[Node], words: &[u64], parts: &Parts, node: Node) -> u64
     }
 }
 
-/// The words of nodes, each over those before it. The error is want of memory.
-pub fn words_of(alloc: Global, nodes: &[Node], parts: &Parts) -> Result<Vec<u64>, AllocError>
-    requires { AreTyped (nodes_of nodes.now) }
-    ensures { IfOk result (λ ws. AreWords (reading_of_parts parts.now) (nodes_of nodes.now) ws.items) }
+/// The words of nodes. The error is want of memory.
+pub fn words_of(alloc: Global, nodes: &Nodes, parts: &Parts) -> Result<Vec<u64>, AllocError>
+    ensures { IfOk result (λ ws. AreWords (reading_of_parts parts.now) (terms nodes.now) ws.items) }
 {
-    let mut words = Vec::with_capacity(alloc, nodes.len())?;
-    for i in 0..nodes.len() {
-        let word = word_of(&nodes[..i], &words, parts, nodes[i]);
+    let count = nodes.list.len();
+    let mut words = Vec::with_capacity(alloc, count)?;
+    for i in 0..count {
+        let before = Nodes {
+            list: &nodes.list[..i],
+        };
+        let word = word_of(&before, &words, parts, nodes.list[i]);
         words.push(word)?;
     }
     Ok(words)

@@ -2,7 +2,6 @@
 
 ghost use Rattle.std.specs.Prelude.{◌≡◌, ◌<◌, ◌≤◌, ◌^◌, ℕ, List, true, false, IfOk, length, map, slice_set};
 ghost use Rattle.std.specs.List.{AllByRecursion};
-ghost use Rattle.term_spec.specs.Terms.{AreTyped};
 ghost use Rattle.term_dag.specs.Nodes.{node_of};
 ghost use Rattle.term_dag.specs.Made.{operands};
 ghost use Rattle.weakest_pre.specs.Copies.{Always, AreCopies, AreCopiesOf, ArePicked, AreReached, AreRootsMarked, AreWithin, IsCopy, copy_at, is_marked, marked, visited};
@@ -39,12 +38,12 @@ fn mark_operands(marks: &mut [bool], node: Node)
 
 /// Marks the places that a place is over, if that is marked.
 fn visit(marks: &mut [bool], source: &Dag, place: u32)
-    requires typed { AreTyped source.now }
     requires place { place < length marks.old }
     requires within { place < length source.now }
     ensures { marks.new ≡ visited source.now marks.old place }
 {
     if marks[place as usize] {
+        let _typed = source.nodes();
         mark_operands(marks, source.node(Term(place)));
     }
 }
@@ -62,13 +61,13 @@ fn mark_roots(marks: &mut [bool], roots: &[Term])
 
 /// Marks roots and the places that they reach, where no place is marked.
 fn mark_reached(marks: &mut [bool], source: &Dag, roots: &[Term])
-    requires typed { AreTyped source.now }
     requires within { length marks.old ≤ length source.now }
     requires numbered { length marks.old ≤ 2 ^ 32 }
     requires roots { AreWithin roots.now (length marks.old) }
     requires blank { (i : ℕ) → is_marked marks.old i ≡ false }
     ensures { AreReached source.now roots.now marks.new }
 {
+    let _typed = source.nodes();
     mark_roots(marks, roots);
     let mut place = marks.len();
     while place > 0 {
@@ -92,7 +91,6 @@ fn bound_of(roots: &[Term]) -> usize
 
 /// The places up to the last of some roots, each with whether a root reaches it. The error is want of memory.
 pub fn reached(alloc: Global, source: &Dag, roots: &[Term]) -> Result<Vec<bool>, AllocError>
-    requires typed { AreTyped source.now }
     requires roots { AreWithin roots.now (length source.now) }
     ensures { IfOk result (λ m. AreReached source.now roots.now m.items) }
 {
@@ -129,8 +127,6 @@ fn kept(
     copies: &[Term],
     place: u32,
 ) -> Result<Term, AllocError>
-    requires typed { AreTyped source.now }
-    requires old { AreTyped dag.old }
     requires reached { (roots : List Term) × AreReached source.now roots marks.now }
     requires place { place < length marks.now }
     requires within { place < length source.now }
@@ -138,6 +134,8 @@ fn kept(
     requires copies { AreCopies Always source.now dag.old marks.now copies.now }
     ensures { IfOk result (λ t. IsCopy source.now dag.old dag.new marks.now place t.0) }
 {
+    let _typed = source.nodes();
+    let _old = dag.nodes();
     if marks[place as usize] {
         let term = dag.keep(source.node(Term(place)).moved(copies))?;
         return Ok(term);
@@ -152,11 +150,10 @@ pub fn copied(
     source: &Dag,
     roots: &[Term],
 ) -> Result<Vec<Term>, AllocError>
-    requires typed { AreTyped source.now }
-    requires old { AreTyped dag.old }
     requires roots { AreWithin roots.now (length source.now) }
     ensures { IfOk result (λ ts. AreCopiesOf source.now dag.old dag.new roots.now ts.items) }
 {
+    let _typed = dag.nodes();
     let marks = reached(alloc, source, roots)?;
     let mut copies = Vec::with_capacity(alloc, marks.len())?;
     for place in 0..marks.len() {

@@ -2,7 +2,7 @@
 
 ghost use Rattle.std.specs.Prelude.{◌≡◌, ℕ, ◌<◌, ◌≤◌, ◌-◌, ◌^◌, List, [], length, IfNone, IfOk, IfSome};
 ghost use Rattle.word_spec.specs.Words.{bits, complement, concat};
-ghost use Rattle.term_spec.specs.Terms.{AreTyped, HasWidth, term_word};
+ghost use Rattle.term_spec.specs.Terms.{HasWidth, term_word};
 ghost use Rattle.term_dag.specs.Nodes.{node_of};
 ghost use Rattle.note_terms.specs.Steps.{IsStep};
 ghost use Rattle.weakest_pre.specs.Copies.{AreCopies, AreReached, AreWithin};
@@ -31,7 +31,6 @@ fn whole(runs: Runs) -> Option<u32>
 
 /// The bits of a word of 32 bits below a place, of which so many are known.
 fn lower(dag: &mut Dag, word: Term, place: u8, count: u8, below: u32) -> Result<Term, AllocError>
-    requires typed { AreTyped dag.old }
     requires word { HasWidth dag.old 32 word.0 }
     requires place { place ≤ 32 }
     requires some { count < place }
@@ -61,13 +60,13 @@ fn lower(dag: &mut Dag, word: Term, place: u8, count: u8, below: u32) -> Result<
 
 /// A word of 32 bits whose bits from a place on are known, and whose others are a term.
 fn raised(dag: &mut Dag, lower: Term, place: u8, above: u32) -> Result<Term, AllocError>
-    requires typed { AreTyped dag.old }
     requires some { 1 ≤ place }
     requires place { place ≤ 32 }
     requires lower { HasWidth dag.old place lower.0 }
     requires above { above < 2 ^ (32 - place) }
     ensures { IfOk result (λ t. IsStep dag.old dag.new 0 0 4 (λ w. w ≡ 32) (λ x. concat place above (term_word x dag.old lower.0)) t.0) }
 {
+    let _typed = dag.nodes();
     if place == 32 {
         return Ok(lower);
     }
@@ -97,7 +96,6 @@ fn complement(width: u8, bits: u32) -> u32
 /// A word of 32 bits whose ends are known. It is made of the parts of its complement: no fold looks into that, so what is over the word stays over one term, as
 /// it was over the register.
 fn pieced(dag: &mut Dag, word: Term, runs: Runs) -> Result<Term, AllocError>
-    requires typed { AreTyped dag.old }
     requires word { HasWidth dag.old 32 word.0 }
     requires place { runs.place ≤ 32 }
     requires above { runs.above < 2 ^ (32 - runs.place) }
@@ -127,7 +125,6 @@ fn known_register(
     runs: Runs,
     constants: bool,
 ) -> Result<Term, AllocError>
-    requires typed { AreTyped dag.old }
     requires place { runs.place ≤ 32 }
     requires above { runs.above < 2 ^ (32 - runs.place) }
     requires count { runs.count ≤ 32 }
@@ -161,8 +158,6 @@ fn folded(
     copies: &[Term],
     place: u32,
 ) -> Result<Term, AllocError>
-    requires typed { AreTyped source.now }
-    requires old { AreTyped dag.old }
     requires reached { (roots : List Term) × AreReached source.now roots marks.now }
     requires place { place < length marks.now }
     requires within { place < length source.now }
@@ -170,6 +165,8 @@ fn folded(
     requires copies { AreCopies (IsMetBy facts.now) source.now dag.old marks.now copies.now }
     ensures { IfOk result (λ t. IsFolded (IsMetBy facts.now) source.now dag.old dag.new marks.now place t.0) }
 {
+    let _typed = source.nodes();
+    let _old = dag.nodes();
     if marks[place as usize] {
         let node = source.node(Term(place));
         if let Node::Register {
@@ -195,7 +192,6 @@ fn folded_roots(
     facts: &Facts,
     roots: &[Term],
 ) -> Result<Vec<Term>, AllocError>
-    requires typed { AreTyped source.now }
     requires old { dag.old ≡ [] }
     requires roots { AreWithin roots.now (length source.now) }
     ensures { IfOk result (λ ts. AreFoldedRoots (IsMetBy facts.now) source.now dag.new roots.now ts.items) }
@@ -219,8 +215,6 @@ pub fn folded_copies(
     facts: &Facts,
     roots: &[Term],
 ) -> Result<Vec<Term>, AllocError>
-    requires typed { AreTyped source.now }
-    requires old { AreTyped dag.old }
     requires roots { AreWithin roots.now (length source.now) }
     ensures { IfOk result (λ ts. AreFoldedCopies (IsMetBy facts.now) source.now dag.old dag.new roots.now ts.items) }
 {
@@ -246,8 +240,6 @@ pub fn folded_copy(
     facts: &Facts,
     root: Term,
 ) -> Result<Term, AllocError>
-    requires typed { AreTyped source.now }
-    requires old { AreTyped dag.old }
     requires root { root.0 < length source.now }
     ensures { IfOk result (λ t. IsFoldedCopy (IsMetBy facts.now) source.now dag.old dag.new root.0 t.0) }
 {

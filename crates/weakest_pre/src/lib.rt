@@ -7,7 +7,7 @@ mod facts;
 mod folding;
 
 ghost use Rattle.std.specs.Prelude.{◌≡◌, [], true, IfOk};
-ghost use Rattle.term_spec.specs.Terms.{AreTyped, HasWidth};
+ghost use Rattle.term_spec.specs.Terms.{HasWidth};
 ghost use Rattle.term_spec.specs.Passive.{IsPassive};
 ghost use Rattle.walk_spec.specs.Unrolled.{is_register_of};
 ghost use Rattle.walk_spec.specs.Unrolling.{IsWalkable};
@@ -38,7 +38,6 @@ fn tied(
     entry: Term,
     end: Term,
 ) -> Result<Term, AllocError>
-    requires typed { AreTyped passive.now.dag }
     requires entry { IsEntryBit (unrolled_of passive.now.unrolled.now) [] dag.old entry.0 }
     requires end { HasWidth passive.now.dag 1 end.0 }
     ensures { IfOk result (λ t. IsTied passive.now.dag dag.old dag.new entry.0 end.0 t.0) }
@@ -57,7 +56,6 @@ fn root(
     asked: Asked,
     entry: Term,
 ) -> Result<Term, AllocError>
-    requires typed { AreTyped passive.now.dag }
     requires bit { HasAskedBit passive.now asked }
     requires entry { IsEntryBit (unrolled_of passive.now.unrolled.now) [] dag.old entry.0 }
     ensures { IfOk result (λ t. IsTiedBy passive.now asked dag.old entry.0 (record { nodes = dag.new; root = t.0 })) }
@@ -80,7 +78,6 @@ fn asking<'a>(
 ) -> Result<Question<'a>, AllocError>
     requires link { is_register_of (unrolled_of passive.now.unrolled.now) passive.now.unrolled.now.link ≡ true }
     requires lines { HasReadableLines (unrolled_of passive.now.unrolled.now) }
-    requires typed { AreTyped passive.now.dag }
     requires bit { HasAskedBit passive.now asked }
     ensures is { IfOk result (λ q. IsTermOf q.passive.now q.asked (term_of q)) }
     ensures of { IfOk result (λ q. (q.passive.now ≡ passive.now) × (q.asked ≡ asked)) }

@@ -1,7 +1,6 @@
 use Rattle.std.proofs.Common.{◌++◌, ◌∷◌, [], List, rules, refl, sym, ap, ◌∙◌, subst, arith}
 use Rattle.machine_spec.specs.Bil as bil
-use Rattle.term_spec.specs.Terms.{TermNode, BinaryNode, IsTypedOver, HasWidth}
-use Rattle.term_dag.specs.Made.{IsMade}
+use Rattle.term_spec.specs.Terms.{TermNode, IsTypedOver, HasWidth}
 use Rattle.term_dag.proofs.Growth.{grew_width, grew_on}
 use Rattle.bil_ast.specs.declared.expressions.Exp.{Exp}
 use Rattle.bil_ast.specs.declared.expressions.Exp.TheViews.{the_lemmas}
@@ -135,13 +134,10 @@ word_term-returns-in_ok-result-in-Binary-clause-term t c =
     let a = word_at _ _ _ _ _ _ _ _ _ c.in-Binary.left.value _ _ refl c.deref-in-Binary.ensures c.in_ok-left-in-Binary.ensures.term in
     let b = word_at _ _ _ _ _ _ _ _ _ c.in-Binary.right.value _ _ c.in_ok-left-in-Binary.ensures.locals c.deref-in-Binary-2.ensures
     c.in_ok-right-in-Binary.ensures.term in
-    let made = subst (λ (o : bil.BinaryOp). IsMade c.word_term-in-Binary-2.new.dag c.mk-in-Binary.new.self
-    (BinaryNode o c.width-width.result c.in_ok-left-in-Binary.left.0 c.in_ok-right-in-Binary.right.0) c.in_ok-result-in-Binary.result.0)
-    c.op_of_binary.ensures c.in_ok-result-in-Binary.ensures in
     subst (λ (z : Exp). IsWordTerm c.args.dag.now c.mk-in-Binary.new.self c.args.names.now c.args.locals.now.items c.args.place c.args.live.0
     c.args.stored.now.items
     c.word_term-in-Binary-2.new.stored.items (expression z) c.in_ok-result-in-Binary.result.0) (sym c.in-Binary.is)
-    (binary_word _ _ _ _ _ _ _ _ _ _ _ _ _ _ _ _ _ _ c.requires.scope a b h.2 c.width-width.ensures made)
+    (binary_word _ _ _ _ _ _ _ _ _ _ _ _ _ _ _ _ _ _ c.requires.scope a b h.2 c.width-width.ensures c.in_ok-result-in-Binary.ensures)
 
 pub word_term-returns-in_ok-result-in-Concat-clause-term : goal.word_term-returns-in_ok-result-in-Concat-clause-term
 word_term-returns-in_ok-result-in-Concat-clause-term t c =

@@ -9,7 +9,7 @@ loop-place-init c =
     let a = c.args.build.now in
     record {
       question = refl;
-      lowered = start_lowered (source_of a) a _ _ _ _ c.requires.typed c.requires.nodes c.requires.reads c.in_ok-with_capacity.ensures.items
+      lowered = start_lowered (source_of a) a _ _ _ _ c.nodes-count.ensures.typed c.requires.nodes c.requires.reads c.in_ok-with_capacity.ensures.items
           c.in_ok-with_capacity-2.ensures.items c.new-2.ensures.items c.new.ensures.items;
     }
 

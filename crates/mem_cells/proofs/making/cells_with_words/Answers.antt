@@ -8,9 +8,6 @@ made-requires-clause-named c = headless_named c.args.question.now (term_of c.arg
 pub made-requires-clause-gifts : goal.made-requires-clause-gifts
 made-requires-clause-gifts c = headless_gifts c.args.question.now.passive.now.unrolled.now c.requires.headless
 
-pub made-requires-clause-typed : goal.made-requires-clause-typed
-made-requires-clause-typed c = c.requires.terms.1.typed
-
 pub returns-clause-cells : goal.returns-clause-cells
 returns-clause-cells c =
     made_headless c.args.question.now c.args.words.now c.args.added.now c.in_ok-cells.cells c.requires.terms.0 c.requires.headless c.requires.terms.1

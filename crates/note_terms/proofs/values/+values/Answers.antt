@@ -13,7 +13,7 @@ value-value-requires-in-Binary-2 t c =
     let zero = zero_stays _ _ _ _ _ _ _ _ grew c.requires.zero in
     let h = rw c.in-Binary.is at c.requires.reads in (
       search (rules, the_lemmas),
-      (rw c.deref-in-Binary-2.ensures h.1, (c.requires.same, (now, (entry, (c.in_ok-left-in-Binary.ensures.typed, zero))))),
+      (rw c.deref-in-Binary-2.ensures h.1, (c.requires.same, (now, (entry, zero)))),
     )
 
 pub value-applied-requires-clause-zero : goal.value-applied-requires-clause-zero
@@ -25,7 +25,7 @@ value-returns-in_ok-term-in-Number t c = rw c.in-Number.is (number_value _ _ _ _
 
 pub value-returns-in-Register : goal.value-returns-in-Register
 value-returns-in-Register t c =
-    rw c.in-Register.is (register_value _ _ _ _ _ _ c.requires.typed c.requires.now c.register.ensures.first c.register.ensures.within c.register.ensures.term)
+    rw c.in-Register.is (register_value _ _ _ _ _ _ c.nodes-typed.ensures.typed c.requires.now c.register.ensures.first c.register.ensures.within c.register.ensures.term)
 
 pub value-returns-in_ok-term-in-Memory : goal.value-returns-in_ok-term-in-Memory
 value-returns-in_ok-term-in-Memory t c =
@@ -50,7 +50,7 @@ all_true-value-requires t c =
     let now = state_stays _ _ _ _ _ _ _ _ grew c.requires.now in
     let entry = state_stays _ _ _ _ _ _ _ _ grew c.requires.entry in
     let zero = zero_stays _ _ _ _ _ _ _ _ grew c.requires.zero in
-    (search rules, (c.requires.reads, (c.requires.same, (now, (entry, (c.loop-v.invariant.value.typed, zero))))))
+    (search rules, (c.requires.reads, (c.requires.same, (now, (entry, zero)))))
 
 pub all_true-connected-requires-clause-zero : goal.all_true-connected-requires-clause-zero
 all_true-connected-requires-clause-zero t c =
@@ -67,7 +67,7 @@ all_true-value-requires-2 t c =
     let now = state_stays _ _ _ _ _ _ _ _ grew c.requires.now in
     let entry = state_stays _ _ _ _ _ _ _ _ grew c.requires.entry in
     let zero = zero_stays _ _ _ _ _ _ _ _ grew c.requires.zero in
-    (search rules, (c.requires.reads, (c.requires.same, (now, (entry, (c.loop-v.invariant.value.typed, zero))))))
+    (search rules, (c.requires.reads, (c.requires.same, (now, (entry, zero)))))
 
 pub all_true-connected-requires-2-clause-zero : goal.all_true-connected-requires-2-clause-zero
 all_true-connected-requires-2-clause-zero t c =
@@ -83,7 +83,7 @@ value-all_true-requires t c =
     let h = rw c.in-All.is at r.reads in
     let inner = reads_all (form_of c.args.now.now.names.now) c.in-All.low c.in-All.high (expr_of c.in-All.inner.value) h in (
       search (rules, the_lemmas),
-      (rw c.deref-in-All.ensures inner, (r.same, (r.now, (r.entry, (r.typed, r.zero))))),
+      (rw c.deref-in-All.ensures inner, (r.same, (r.now, (r.entry, r.zero)))),
     )
 
 pub value-returns-in_ok-term-in-Bound : goal.value-returns-in_ok-term-in-Bound

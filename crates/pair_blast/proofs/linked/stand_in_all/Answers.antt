@@ -34,6 +34,6 @@ loop-i-preserved c =
       value = λ v x r s.
           c.stand_in.ensures.value v _ x (c.loop-i.invariant.value v x r s) r
           (λ h. c.operand-word.ensures.value v ∙ same_at v c.args.words.now x c.args.dag.now c.args.entries.now c.args.others.now i s k l
-          ∙ input_word x c.args.dag.now (get_or c.args.others.now i no_term).0 (node_of c.node-node.result) c.requires.typed
+          ∙ input_word x c.args.dag.now (get_or c.args.others.now i no_term).0 (node_of c.node-node.result) c.nodes-typed.ensures.typed
           (c.requires.alike.second i no_term l) c.node-node.ensures h);
     }

@@ -6,11 +6,13 @@ use Rattle.pair_terms.specs.Sides.{program_of_exit}
 use Rattle.pair_terms.proofs.TiedMade.{tied_from, roots_within, behind_first}
 use Rattle.pair_terms.proofs.sides.tied.Goals as goal
 
-pub folded_copies-requires-clause-roots : goal.folded_copies-requires-clause-roots
-folded_copies-requires-clause-roots c =
+pub folded_copies-requires : goal.folded_copies-requires
+folded_copies-requires c =
     let exit = c.args.exit.now in
-    subst (λ (z : List Term). AreWithin z (length exit.passive.dag)) (sym c.deref.ensures.value)
-    (roots_within exit.passive.dag exit.met exit.words.items c.in_ok-roots.roots.items c.requires.words.0 c.requires.met c.requires.words.1 c.in_ok-roots.ensures)
+    record {
+      roots = subst (λ (z : List Term). AreWithin z (length exit.passive.dag)) (sym c.deref.ensures.value)
+          (roots_within exit.passive.dag exit.met exit.words.items c.in_ok-roots.roots.items c.requires.words.0 c.requires.met c.requires.words.1 c.in_ok-roots.ensures);
+    }
 
 pub returns : goal.returns
 returns c =

@@ -3,10 +3,11 @@ use Rattle.term_dag.specs.declared.nodes.Term.{Term}
 use Rattle.pair_terms.proofs.Blank.{link_ranged, links_blank}
 use Rattle.pair_terms.proofs.words.blank_terms.Goals as goal
 
-pub blank_part-requires-clause-range : goal.blank_part-requires-clause-range
-blank_part-requires-clause-range c =
-    link_ranged c.args.second c.requires.links.0 c.args.links.now c.loop-i.i _ c.part_of-part.result c.requires.links.1 c.loop-i-test.true
-    c.part_of-part.ensures
+pub blank_part-requires : goal.blank_part-requires
+blank_part-requires c = record {
+  range = link_ranged c.args.second c.requires.links.0 c.args.links.now c.loop-i.i _ c.part_of-part.result c.requires.links.1 c.loop-i-test.true
+      c.part_of-part.ensures;
+}
 
 pub loop-i-preserved : goal.loop-i-preserved
 loop-i-preserved c =

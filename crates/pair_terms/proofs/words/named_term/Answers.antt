@@ -21,7 +21,7 @@ returns-in-Register c =
     let dag = c.args.dag.now in
     subst (λ (z : Named). AreWordTerms dag dag (form_of n) (names_of n) (part_widths (Word z)) (part_words (Word z)) (c.index.result.now.0 ∷ []) 0 1)
     (sym c.in-Register.is)
-    (register_word dag n c.in-Register.register c.index.result.now c.requires.typed c.requires.names (subst (IsNamedIn n) c.in-Register.is c.requires.named)
+    (register_word dag n c.in-Register.register c.index.result.now c.nodes-typed.ensures.typed c.requires.names (subst (IsNamedIn n) c.in-Register.is c.requires.named)
     c.index.ensures)
 
 pub index-requires-in-Flag : goal.index-requires-in-Flag
@@ -35,5 +35,5 @@ returns-in-Flag c =
     let dag = c.args.dag.now in
     subst (λ (z : Named). AreWordTerms dag dag (form_of n) (names_of n) (part_widths (Word z)) (part_words (Word z)) (c.index-in-Flag.result.now.0 ∷ []) 0 1)
     (sym c.in-Flag.is)
-    (flag_word dag n c.in-Flag.flag c.index-in-Flag.result.now c.requires.typed c.requires.names (subst (IsNamedIn n) c.in-Flag.is c.requires.named)
+    (flag_word dag n c.in-Flag.flag c.index-in-Flag.result.now c.nodes-typed.ensures.typed c.requires.names (subst (IsNamedIn n) c.in-Flag.is c.requires.named)
     c.index-in-Flag.ensures)

@@ -29,9 +29,6 @@ needs-requires-clause-reads c l at =
     (ap (map note_line_of) c.deref.ensures.value ∙ ap (λ k. k.needs) (stepped_is u c.args.number (get_or c.args.unrolled.now.stepped.now c.args.number c.index-unrolled-number.result)
     (step_within u c.args.place c.args.number c.requires.steps c.requires.place c.requires.deed) (ap (λ z. get_or c.args.unrolled.now.stepped.now c.args.number z) c.index-unrolled-number.is))) l at
 
-pub spans-requires-clause-typed : goal.spans-requires-clause-typed
-spans-requires-clause-typed c = c.in_ok-yes.ensures.typed
-
 pub spans-requires-clause-reads : goal.spans-requires-clause-reads
 spans-requires-clause-reads c w at =
     let u = c.args.unrolled.now in
@@ -56,9 +53,6 @@ spans-requires-clause-now c =
       pc = grew_width c.needs.new.dag c.constant.new.dag _ _ _ _ _ 32 c.args.now.now.pc.0 c.in_ok-yes.ensures.grew
           (grew_width c.args.dag.now c.needs.new.dag _ _ _ _ _ 32 c.args.now.now.pc.0 c.in_ok-needed.ensures.lines.steps.grew c.requires.pc);
     }
-
-pub refused-requires-clause-typed : goal.refused-requires-clause-typed
-refused-requires-clause-typed c = c.in_ok-spans.ensures.typed
 
 pub refused-requires-clause-spans : goal.refused-requires-clause-spans
 refused-requires-clause-spans c =
@@ -90,9 +84,6 @@ event-requires-clause-rest c =
     grew_width c.spans.new.dag c.refused.new.dag _ _ _ _ _ 1 t c.in_ok-wrote.ensures.grew
     (grew_width c.constant.new.dag c.spans.new.dag _ _ _ _ _ 1 t c.in_ok-spans.ensures.grew
     (grew_width c.needs.new.dag c.constant.new.dag _ _ _ _ _ 1 t c.in_ok-yes.ensures.grew c.in_ok-needed.ensures.bit))
-
-pub given-requires-clause-typed : goal.given-requires-clause-typed
-given-requires-clause-typed c = c.in_ok-kept.ensures.steps.well.typed
 
 pub given-requires-clause-registers : goal.given-requires-clause-registers
 given-requires-clause-registers c =

@@ -13,9 +13,6 @@ gift_names-requires-clause-words c = wide_words c.args.dag.now c.args.names.now 
 pub gift_names-requires-clause-bits : goal.gift_names-requires-clause-bits
 gift_names-requires-clause-bits c = wide_bits c.args.dag.now c.args.names.now c.requires.names
 
-pub taken-requires-clause-typed : goal.taken-requires-clause-typed
-taken-requires-clause-typed c = c.nodes-typed.ensures.typed
-
 pub taken-requires-clause-spans : goal.taken-requires-clause-spans
 taken-requires-clause-spans c =
     spans_keep c.args.dag.now c.gift_names.new.dag _ _ _ _ _ c.args.spans.now c.in_ok-before.ensures.grew c.requires.spans

@@ -13,7 +13,7 @@ use Rattle.passify.proofs.Tried.{typed_before}
 use Rattle.passify.proofs.calls.gives.Goals as goal
 
 pub loop-i-init : goal.loop-i-init
-loop-i-init c = given_none c.args.dag.now c.args.rest.0 c.args.big c.args.next.now c.args.now.now c.requires.typed c.requires.rest
+loop-i-init c = given_none c.args.dag.now c.args.rest.0 c.args.big c.args.next.now c.args.now.now c.nodes-typed.ensures.typed c.requires.rest
 
 pub line-requires-clause-reads : goal.line-requires-clause-reads
 line-requires-clause-reads c =

@@ -26,9 +26,6 @@ pub bounds-unrolled-number : goal.bounds-unrolled-number
 bounds-unrolled-number c =
     step_within c.args.unrolled.now c.args.place c.args.number c.requires.steps c.requires.place c.requires.deed
 
-pub gives-requires-clause-typed : goal.gives-requires-clause-typed
-gives-requires-clause-typed c = c.in_ok-pc.ensures.typed
-
 pub gives-requires-clause-reads : goal.gives-requires-clause-reads
 gives-requires-clause-reads c l at =
     let u = c.args.unrolled.now in

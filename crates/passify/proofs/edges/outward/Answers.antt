@@ -42,9 +42,6 @@ returns-in_default-clause-steps c =
     c.in_ok-judged.field-0.0 u.big c.args.next.now (λ S. S.next) (map (λ l. l.says) (map note_line_of z)) []
     (goes_out_by changed (map note_line_of z)) (goes_out_by changed [])) c.deref.ensures.value (c.in_ok-judged.ensures changed))
 
-pub changed-requires-clause-typed : goal.changed-requires-clause-typed
-changed-requires-clause-typed c = (c.in_ok-left.ensures (λ S. false)).lines.steps.well.typed
-
 pub changed-requires-clause-registers : goal.changed-requires-clause-registers
 changed-requires-clause-registers c =
     let z = c.judged-2.new.sweep in

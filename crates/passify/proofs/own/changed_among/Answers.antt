@@ -5,7 +5,7 @@ use Rattle.passify.proofs.own.changed_among.Goals as goal
 
 pub loop-i-init : goal.loop-i-init
 loop-i-init c =
-    among_none c.args.dag.now c.args.width c.args.set c.args.first (places c.args.entry.now) (places c.args.next.now) c.args.before.0 c.requires.typed
+    among_none c.args.dag.now c.args.width c.args.set c.args.first (places c.args.entry.now) (places c.args.next.now) c.args.before.0 c.nodes-typed.ensures.typed
     c.requires.before
 
 pub loop-i-preserved-then-is_in : goal.loop-i-preserved-then-is_in

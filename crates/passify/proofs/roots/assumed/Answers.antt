@@ -9,7 +9,7 @@ use Rattle.passify.proofs.Planted.{assumed_among, assumed_first, assumed_none, a
 use Rattle.passify.proofs.roots.assumed.Goals as goal
 
 pub loop-i-init : goal.loop-i-init
-loop-i-init c = assumed_none c.args.dag.now c.args.unrolled.now.big c.args.now.now c.args.entry.now c.args.yes.0 c.requires.typed c.requires.yes
+loop-i-init c = assumed_none c.args.dag.now c.args.unrolled.now.big c.args.now.now c.args.entry.now c.args.yes.0 c.nodes-typed.ensures.typed c.requires.yes
 
 pub returns : goal.returns
 returns c =

@@ -7,7 +7,7 @@ use Rattle.passify.proofs.roots.own_spans.Goals as goal
 pub returns-in_default : goal.returns-in_default
 returns-in_default c =
     owned_none c.args.unrolled.now c.args.dag.now c.args.entry.now c.args.pc.0 c.new-none.result.items (ap (option_map (λ x. contract_of x.now)) c.in_default.is)
-    c.requires.typed c.new-none.ensures.items
+    c.nodes-typed.ensures.typed c.new-none.ensures.items
 
 pub spans-requires-clause-reads : goal.spans-requires-clause-reads
 spans-requires-clause-reads c w at =

@@ -23,9 +23,6 @@ returns c =
     (c.in_ok-met.ensures ∙ ap (λ (n : ℕ). replicate n c.in_ok-never.never) (c.len-places.ensures ∙ u.points.ok.0))
     (c.in_ok-states.ensures ∙ ap (λ (n : ℕ). replicate n None) (c.len-places.ensures ∙ u.points.ok.0)) c.in_ok-own.ensures
 
-pub own_spans-requires-clause-typed : goal.own_spans-requires-clause-typed
-own_spans-requires-clause-typed c = c.in_ok-never.ensures.typed
-
 pub own_spans-requires-clause-form : goal.own_spans-requires-clause-form
 own_spans-requires-clause-form c =
     let e = c.registers-first.ensures in

@@ -20,5 +20,5 @@ pub loop-i-preserved : goal.loop-i-preserved
 loop-i-preserved c =
     let s : Span = get_or c.args.spans.now c.loop-i.i no_span in
     taken_more c.args.dag.now c.loop-i.dag c.mk.new.self c.args.spans.now c.loop-i.i s c.args.part c.args.memory.0 c.loop-i.memory.0 c.in_ok-memory.memory.0
-    c.loop-i-test.true (other_default c.args.spans.now c.loop-i.i no_span s c.loop-i-test.true) c.requires.typed c.requires.spans c.requires.memory
+    c.loop-i-test.true (other_default c.args.spans.now c.loop-i.i no_span s c.loop-i-test.true) c.nodes-typed.ensures.typed c.requires.spans c.requires.memory
     c.loop-i.invariant c.in_ok-memory.ensures

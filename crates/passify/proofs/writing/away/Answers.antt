@@ -12,14 +12,14 @@ abbrev no_span : Span
 no_span = record { guard = record { 0 = 0 }; address = record { 0 = 0 }; bytes = 0 }
 
 pub loop-i-init : goal.loop-i-init
-loop-i-init c = away_none c.args.dag.now c.args.at.0 c.args.rest.0 c.requires.typed c.requires.rest
+loop-i-init c = away_none c.args.dag.now c.args.at.0 c.args.rest.0 c.nodes-typed.ensures.typed c.requires.rest
 
 pub loop-i-preserved : goal.loop-i-preserved
 loop-i-preserved c =
     let s : Span = get_or c.args.own.now c.loop-i.i no_span in
     away_more c.args.dag.now c.loop-i.dag c.keep.new.self c.mk.new.self c.mk-in-loop-i.new.self c.both.new.dag c.args.at.0 c.args.rest.0 c.args.own.now c.loop-i.i s
     c.loop-i.left.0 c.from.result c.in_ok-count.count.0 c.in_ok-distance.distance.0 c.in_ok-past.past.0 c.in_ok-left.left.0 c.loop-i-test.true
-    (other_default c.args.own.now c.loop-i.i no_span s c.loop-i-test.true) c.requires.typed c.requires.own c.requires.at c.from.ensures c.loop-i.invariant
+    (other_default c.args.own.now c.loop-i.i no_span s c.loop-i-test.true) c.nodes-typed.ensures.typed c.requires.own c.requires.at c.from.ensures c.loop-i.invariant
     c.in_ok-count.ensures c.in_ok-distance.ensures c.in_ok-past.ensures c.in_ok-left.ensures
 
 pub returns : goal.returns

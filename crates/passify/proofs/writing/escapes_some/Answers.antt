@@ -4,7 +4,7 @@ use Rattle.passify.proofs.Outside.{all_bytes, all_escape, first_bytes, more_byte
 use Rattle.passify.proofs.writing.escapes_some.Goals as goal
 
 pub loop-number-init : goal.loop-number-init
-loop-number-init c = first_bytes c.args.dag.now c.args.stored c.args.before.0 c.args.own.now c.requires.typed c.requires.before
+loop-number-init c = first_bytes c.args.dag.now c.args.stored c.args.before.0 c.args.own.now c.nodes-typed.ensures.typed c.requires.before
 
 pub loop-number-preserved : goal.loop-number-preserved
 loop-number-preserved c =
@@ -18,7 +18,7 @@ returns-then-is_empty c =
 
 pub returns : goal.returns
 returns c =
-    all_bytes c.args.dag.now c.loop-number.dag c.args.stored c.args.before.0 c.args.own.now c.loop-number.number c.loop-number.some.0 c.requires.typed
+    all_bytes c.args.dag.now c.loop-number.dag c.args.stored c.args.before.0 c.args.own.now c.loop-number.number c.loop-number.some.0 c.nodes-typed.ensures.typed
     c.requires.store (let is = c.is_empty.ensures in let not = c.if-is_empty.false in grind (arith, is, not, nat_tests))
     (omega (arith, c.loop-number-test.false, c.loop-number.auto.number-end)) c.loop-number.invariant
 

@@ -9,13 +9,13 @@ abbrev no_span : Span
 no_span = record { guard = record { 0 = 0 }; address = record { 0 = 0 }; bytes = 0 }
 
 pub loop-i-init : goal.loop-i-init
-loop-i-init c = outside_none c.args.dag.now c.args.before.0 c.args.own.now c.requires.typed c.requires.before
+loop-i-init c = outside_none c.args.dag.now c.args.before.0 c.args.own.now c.nodes-typed.ensures.typed c.requires.before
 
 pub loop-i-preserved : goal.loop-i-preserved
 loop-i-preserved c =
     let s : Span = get_or c.args.spans.now c.loop-i.i no_span in
     outside_more c.args.dag.now c.loop-i.dag c.escapes_some.new.dag c.args.before.0 c.args.spans.now c.args.own.now c.loop-i.i s c.loop-i.some.0
-    c.in_ok-some.some.0 c.loop-i-test.true (other_default c.args.spans.now c.loop-i.i no_span s c.loop-i-test.true) c.requires.typed c.requires.spans
+    c.in_ok-some.some.0 c.loop-i-test.true (other_default c.args.spans.now c.loop-i.i no_span s c.loop-i-test.true) c.nodes-typed.ensures.typed c.requires.spans
     c.requires.own c.loop-i.invariant c.in_ok-some.ensures
 
 pub returns : goal.returns

@@ -9,9 +9,6 @@ returns-in-None c =
     refused_none c.args.unrolled.now c.args.dag.now c.writes_kept.new.dag c.args.spans.now c.args.own.now c.in_ok-kept.kept.0 c.in_ok-kept.ensures
     (ap (option_map (λ x. contract_of x.now)) c.in-None.is)
 
-pub outside-requires-clause-typed : goal.outside-requires-clause-typed
-outside-requires-clause-typed c = c.in_ok-kept.ensures.typed
-
 pub outside-requires-clause-spans : goal.outside-requires-clause-spans
 outside-requires-clause-spans c =
     spans_keep c.args.dag.now c.writes_kept.new.dag _ _ _ _ _ c.args.spans.now c.in_ok-kept.ensures.grew c.requires.spans

@@ -4,7 +4,7 @@ use Rattle.passify.proofs.Writes.{run_at, touches_all, touches_more, touches_non
 use Rattle.passify.proofs.writing.touches_some.Goals as goal
 
 pub loop-i-init : goal.loop-i-init
-loop-i-init c = touches_none c.args.dag.now c.args.stored c.args.before.0 c.requires.typed c.requires.before
+loop-i-init c = touches_none c.args.dag.now c.args.stored c.args.before.0 c.nodes-typed.ensures.typed c.requires.before
 
 pub touches-requires-clause-run : goal.touches-requires-clause-run
 touches-requires-clause-run c =

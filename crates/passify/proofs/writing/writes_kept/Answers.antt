@@ -24,7 +24,7 @@ loop-i-preserved c =
     writes_more c.args.dag.now c.loop-i.dag c.touches_some.new.dag c.args.spans.now
     (map kept_of c.args.kept.now) c.loop-i.i s c.loop-i.some.0 c.in_ok-some-2.some.0
     c.loop-i-test.true at
-    (c.requires.spans s (has_at c.args.spans.now c.loop-i.i s c.loop-i-test.true at)) c.requires.typed c.loop-i.invariant
+    (c.requires.spans s (has_at c.args.spans.now c.loop-i.i s c.loop-i-test.true at)) c.nodes-typed.ensures.typed c.loop-i.invariant
     (by_count c.loop-i.dag c.touches_some.new.dag c.args.kept.now c.in_ok-some-2.some.0
     (Touches c.loop-i.dag c.touches_some.new.dag s (map kept_of c.args.kept.now) c.loop-i.some.0 c.in_ok-some-2.some.0) c.in_ok-some-2.ensures)
 

@@ -11,6 +11,6 @@ alike false false h = refl
 
 pub returns-then-at-address : goal.returns-then-at-address
 returns-then-at-address c =
-    just_stored _ c.args.bytes c.args.big _ _ _ c.in-Store.order _ _ _ c.requires.typed c.requires.memory c.requires.address c.in-Store.ensures
+    just_stored _ c.args.bytes c.args.big _ _ _ c.in-Store.order _ _ _ c.args.nodes.now.typed c.requires.memory c.requires.address c.in-Store.ensures
     c.if-stored-bytes.true
     (alike _ _ c.if-order-big.true) c.if-at-address.true

@@ -11,6 +11,6 @@ returns-in-Some c =
 
 pub returns : goal.returns
 returns c =
-    moved_onto _ c.args.width _ _ c.parts-sum.result.offset c.args.right _ c.args.differs _ c.requires.typed c.requires.some c.parts-sum.ensures
+    moved_onto _ c.args.width _ _ c.parts-sum.result.offset c.args.right _ c.args.differs _ c.args.nodes.now.typed c.requires.some c.parts-sum.ensures
     c.requires.below
     c.apply-difference.ensures.value c.apply-difference.ensures.below c.equality_op.ensures

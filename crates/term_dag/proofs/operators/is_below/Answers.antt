@@ -11,4 +11,4 @@ pub returns : goal.returns
 returns c =
     let b = c.in_ok-_bit.ensures in
     same_fold _ 1 _ _ 0 c.args.width _ (λ x i. bit_below_more _ _ c.args.right (b.value x)
-    (word_fits x _ 1 _ i c.requires.typed b.place) c.if-right-eq0.false c.if-right-eq1.false) (omega arith) (c.truth-2.ensures _)
+    (word_fits x _ 1 _ i c.args.nodes.now.typed b.place) c.if-right-eq0.false c.if-right-eq1.false) (omega arith) (c.truth-2.ensures _)

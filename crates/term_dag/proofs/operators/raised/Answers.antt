@@ -1,7 +1,7 @@
 use Rattle.std.proofs.Common.{refl, ap, sym, ◌∙◌, arith}
 use Rattle.word_spec.specs.Words as words
 use Rattle.term_spec.specs.Terms.{term_word}
-use Rattle.term_dag.specs.Nodes.{nodes_of}
+use Rattle.term_dag.specs.Lists.{terms}
 use Rattle.term_dag.proofs.Ranges.{word_fits}
 use Rattle.term_dag.proofs.WordLaws.{add_add, add_back}
 use Rattle.term_dag.proofs.operators.raised.Goals as goal
@@ -13,8 +13,8 @@ returns-then-offset-eq0 c =
     record {
       place = s.place;
       value = λ x i.
-          add_back w (term_word x (nodes_of c.args.nodes.now) c.parts-sum.result.base.0) c.parts-sum.result.offset c.args.addend
-          (word_fits x _ _ _ i c.requires.typed s.place) (sym c.apply-offset.ensures.value ∙ c.if-offset-eq0.true)
+          add_back w (term_word x (terms c.args.nodes.now) c.parts-sum.result.base.0) c.parts-sum.result.offset c.args.addend
+          (word_fits x _ _ _ i c.args.nodes.now.typed s.place) (sym c.apply-offset.ensures.value ∙ c.if-offset-eq0.true)
           ∙ ap (λ z. words.add w z c.args.addend) (sym (s.value x i));
     }
 
@@ -28,8 +28,8 @@ returns c =
       second = c.apply-offset.ensures.below;
       width = refl;
       value = λ x i.
-          ap (words.add w (term_word x (nodes_of c.args.nodes.now) c.parts-sum.result.base.0)) c.apply-offset.ensures.value
-          ∙ sym (add_add w (term_word x (nodes_of c.args.nodes.now) c.parts-sum.result.base.0) c.parts-sum.result.offset c.args.addend)
+          ap (words.add w (term_word x (terms c.args.nodes.now) c.parts-sum.result.base.0)) c.apply-offset.ensures.value
+          ∙ sym (add_add w (term_word x (terms c.args.nodes.now) c.parts-sum.result.base.0) c.parts-sum.result.offset c.args.addend)
           ∙ ap (λ z. words.add w z c.args.addend) (sym (s.value x i));
       gates = omega arith;
     }

@@ -19,4 +19,4 @@ same false = refl
 pub returns : goal.returns
 returns c =
     fixed_bit _ _ c.args.width _ _ _ c.in_ok-bit.bit c.requires.some c.result_width.ensures (c.from.ensures ∙ same c.in_ok-bit.bit)
-    (λ x i. c.in_ok-bit.ensures c.args.width _ (word_fits x _ _ _ i c.requires.typed c.requires.place))
+    (λ x i. c.in_ok-bit.ensures c.args.width _ (word_fits x _ _ _ i c.args.nodes.now.typed c.requires.place))

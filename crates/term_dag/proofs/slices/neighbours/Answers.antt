@@ -6,10 +6,10 @@ use Rattle.term_dag.proofs.slices.neighbours.Goals as goal
 
 pub overflow_add-below : goal.overflow_add-below
 overflow_add-below c =
-    let h = typed_here _ _ _ c.requires.typed c.requires.lower c.in-Extract-look.ensures in
-    Fits-of_lt (omega (arith, h.1, few_bits _ _ c.requires.typed h.2))
+    let h = typed_here _ _ _ c.args.nodes.now.typed c.requires.lower c.in-Extract-look.ensures in
+    Fits-of_lt (omega (arith, h.1, few_bits _ _ c.args.nodes.now.typed h.2))
 
 pub returns-then-middle-below : goal.returns-then-middle-below
 returns-then-middle-below c =
-    neighbours_of _ _ _ _ _ _ _ _ _ c.requires.typed c.requires.upper c.requires.lower c.in-Extract.ensures c.in-Extract-look.ensures c.if-term-other.true
+    neighbours_of _ _ _ _ _ _ _ _ _ c.args.nodes.now.typed c.requires.upper c.requires.lower c.in-Extract.ensures c.in-Extract-look.ensures c.if-term-other.true
     c.if-middle-below.true

@@ -4,7 +4,7 @@ use Rattle.machine_spec.specs.Bil as bil
 use Rattle.term_spec.specs.Terms.{TermNode, BinaryNode, node_at, width_of, AreTyped}
 use Rattle.term_dag.specs.declared.nodes.Term.{Term}
 use Rattle.term_dag.specs.declared.slices.Slice.{Slice}
-use Rattle.term_dag.specs.Nodes.{op_of}
+use Rattle.bil_ast.specs.Views.{binary_of}
 use Rattle.term_dag.specs.Folds.{IsSlice, IsConstant}
 use Rattle.term_dag.proofs.ListLaws.{typed_here}
 use Rattle.term_dag.proofs.Shapes.{slice_of_shift}
@@ -38,26 +38,28 @@ higher_slice (Some s) ns hi lo t w k l f a b d c =
     subst (λ (z : Term). IsSlice ns hi lo t s.hi s.lo z.0) (sym a) (subst
     (λ (z : ℕ). IsSlice ns hi lo t s.hi z l.0) (sym d) (subst (λ (z : ℕ). IsSlice ns hi lo t z (lo + k) l.0) (sym b) (f (omega (arith, b, c)))))
 
-pub constant-requires-clause-within : goal.constant-requires-clause-within
-constant-requires-clause-within c = (typed_here _ _ _ c.requires.typed c.requires.within c.in-Binary.ensures).2.0
+pub constant-requires : goal.constant-requires
+constant-requires c = record {
+  within = (typed_here _ _ _ c.args.nodes.now.typed c.requires.within c.in-Binary.ensures).2.0;
+}
 
 pub returns-else-amount-lo : goal.returns-else-amount-lo
 returns-else-amount-lo c =
     let a = c.in-Binary in
-    let e = ap (λ o. BinaryNode (op_of o) a.width a.left.0 a.right.0) (sym c.in-ShiftLeft.is) ∙ a.ensures in
-    left_shift _ _ _ _ _ _ _ _ c.requires.typed c.requires.within c.requires.order c.requires.fits e c.in_ok-amount.ensures c.if-amount-lo.false
+    let e = ap (λ o. BinaryNode (binary_of o) a.width a.left.0 a.right.0) (sym c.in-ShiftLeft.is) ∙ a.ensures in
+    left_shift _ _ _ _ _ _ _ _ c.args.nodes.now.typed c.requires.within c.requires.order c.requires.fits e c.in_ok-amount.ensures c.if-amount-lo.false
 
 pub returns-in-ShiftRight : goal.returns-in-ShiftRight
 returns-in-ShiftRight c =
     let a = c.in-Binary in
-    let e = ap (λ o. BinaryNode (op_of o) a.width a.left.0 a.right.0) (sym c.in-ShiftRight.is) ∙ a.ensures in
-    higher_slice c.higher.result _ _ _ _ a.width _ _ (right_shift _ _ _ _ _ _ _ _ c.requires.typed c.requires.within c.requires.order e c.in_ok-amount.ensures)
+    let e = ap (λ o. BinaryNode (binary_of o) a.width a.left.0 a.right.0) (sym c.in-ShiftRight.is) ∙ a.ensures in
+    higher_slice c.higher.result _ _ _ _ a.width _ _ (right_shift _ _ _ _ _ _ _ _ c.args.nodes.now.typed c.requires.within c.requires.order e c.in_ok-amount.ensures)
     c.higher.ensures.term c.higher.ensures.hi c.higher.ensures.lo c.higher.ensures.within
 
 pub returns-in-ShiftSigned : goal.returns-in-ShiftSigned
 returns-in-ShiftSigned c =
     let a = c.in-Binary in
-    let e = ap (λ o. BinaryNode (op_of o) a.width a.left.0 a.right.0) (sym c.in-ShiftSigned.is) ∙ a.ensures in
+    let e = ap (λ o. BinaryNode (binary_of o) a.width a.left.0 a.right.0) (sym c.in-ShiftSigned.is) ∙ a.ensures in
     higher_slice c.higher-in-ShiftSigned.result _ _ _ _ a.width _ _
-    (signed_shift _ _ _ _ _ _ _ _ c.requires.typed c.requires.within c.requires.order e c.in_ok-amount.ensures) c.higher-in-ShiftSigned.ensures.term
+    (signed_shift _ _ _ _ _ _ _ _ c.args.nodes.now.typed c.requires.within c.requires.order e c.in_ok-amount.ensures) c.higher-in-ShiftSigned.ensures.term
     c.higher-in-ShiftSigned.ensures.hi c.higher-in-ShiftSigned.ensures.lo c.higher-in-ShiftSigned.ensures.within

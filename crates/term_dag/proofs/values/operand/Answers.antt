@@ -12,5 +12,5 @@ returns-clause-value c = c.requires.words.each c.args.term.0 c.requires.place.0
 
 pub returns-clause-below : goal.returns-clause-below
 returns-clause-below c =
-    let f = word_fits (reading_of_parts c.args.parts.now) _ c.args.width c.args.term.0 (parts_in_range c.args.parts.now) c.requires.typed c.requires.place in
+    let f = word_fits (reading_of_parts c.args.parts.now) _ c.args.width c.args.term.0 (parts_in_range c.args.parts.now) c.args.nodes.now.typed c.requires.place in
     omega (arith, f, c.requires.words.each c.args.term.0 c.requires.place.0)

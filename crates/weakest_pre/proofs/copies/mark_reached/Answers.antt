@@ -34,4 +34,4 @@ loop-place-preserved c =
     let same : k - 1 + 1 ≡ k = omega arith in
     let before = subst (λ (i : ℕ). AreMarkedFrom source roots i marks) (sym same) c.loop-place.invariant in
     subst (λ (l : List Bool). AreMarkedFrom source roots (k - 1) l) (sym c.visit.ensures)
-    (visited_step source roots (k - 1) marks c.requires.typed (omega (arith, few, within)) (omega (arith, few)) before)
+    (visited_step source roots (k - 1) marks c.nodes-typed.ensures.typed (omega (arith, few, within)) (omega (arith, few)) before)

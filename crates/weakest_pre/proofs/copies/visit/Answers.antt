@@ -11,4 +11,4 @@ mark_operands-requires c =
     let place = c.requires.place in
     subst (λ (n : TermNode). AllByRecursion (λ a. a < length marks) (operands n)) (sym c.node.ensures)
     (all_by (λ a. a < c.args.place) (λ a. a < length marks) (λ a l. omega (arith, l, place)) _
-    (operands_before c.args.source.now c.args.place c.requires.typed c.requires.within))
+    (operands_before c.args.source.now c.args.place c.nodes-typed.ensures.typed c.requires.within))

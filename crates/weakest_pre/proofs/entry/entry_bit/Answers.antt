@@ -14,13 +14,15 @@ index-link-requires c =
     let count = c.in_ok-names.ensures.registers in
     omega (arith, h.0, h.1, e.first, e.count, count, c.in_ok-names.names.registers.ok.0)
 
-pub is_at_place-requires-clause-word : goal.is_at_place-requires-clause-word
-is_at_place-requires-clause-word c =
+pub is_at_place-requires : goal.is_at_place-requires
+is_at_place-requires c =
     let layout = layout_of c.args.unrolled.now.form in
     let h = in_range c.args.unrolled.now.link layout.first (length layout.registers) c.requires.link in
     let e = c.registers-first.ensures in
-    link_word _ _ _ _ _ _ _ _ c.args.unrolled.now.link _ c.index-link.result.now c.in_ok-names.ensures c.in_ok-pc.ensures (omega (arith, h.0, e.first))
-    (omega (arith, h.1, e.first, e.count)) c.index-link.ensures
+    record {
+      word = link_word _ _ _ _ _ _ _ _ c.args.unrolled.now.link _ c.index-link.result.now c.in_ok-names.ensures c.in_ok-pc.ensures (omega (arith, h.0, e.first))
+          (omega (arith, h.1, e.first, e.count)) c.index-link.ensures;
+    }
 
 pub all_true-requires-clause-reads : goal.all_true-requires-clause-reads
 all_true-requires-clause-reads c =

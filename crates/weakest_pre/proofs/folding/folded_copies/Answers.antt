@@ -22,8 +22,10 @@ returns c =
     (omega (arith, c.nodes.ensures.count, c.nodes-2.ensures.count)) c.in_ok-folded.ensures
     (subst (λ (l : List Term). AreCopiesOf scratch old new l terms) c.deref.ensures.value c.in_ok-terms-3.ensures)
 
-pub copied-requires-2-clause-roots : goal.copied-requires-2-clause-roots
-copied-requires-2-clause-roots c =
+pub copied-requires-2 : goal.copied-requires-2
+copied-requires-2 c =
     let scratch = c.folded_roots.new.dag in
-    subst (λ (l : List Term). AreWithin l (length scratch)) (sym c.deref.ensures.value)
-    (folded_within (IsMetBy c.args.facts.now) c.args.source.now scratch c.args.roots.now c.in_ok-folded.folded.items c.in_ok-folded.ensures)
+    record {
+      roots = subst (λ (l : List Term). AreWithin l (length scratch)) (sym c.deref.ensures.value)
+          (folded_within (IsMetBy c.args.facts.now) c.args.source.now scratch c.args.roots.now c.in_ok-folded.folded.items c.in_ok-folded.ensures);
+    }
