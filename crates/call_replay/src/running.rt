@@ -1,7 +1,6 @@
 //! The run of a named ending.
-ghost use Rattle.std.specs.Prelude.{◌≡◌, ◌<◌, ◌≤◌, All, AllPairs, IfOk, List, None, Some, length, map};
+ghost use Rattle.std.specs.Prelude.{◌≡◌, ◌<◌, ◌≤◌, All, AllPairs, IfOk, List, None, Some, map};
 ghost use Rattle.bilv_spec.specs.EntryFaults.{IsEntryStateFault};
-ghost use Rattle.bilv_spec.specs.Files.{order_of};
 ghost use Rattle.bilv_spec.specs.Points.{is_known_at};
 ghost use Rattle.call_spec.specs.Calls.{plain_answer};
 ghost use Rattle.machine_spec.specs.StateText.{IsWritten, last_step};
@@ -14,9 +13,6 @@ ghost use Rattle.frame_texts_spec.specs.CallTexts.{CallEnding, frame_name};
 ghost use Rattle.frame_texts_spec.specs.FrameReplays.{step_of};
 ghost use Rattle.start_value.specs.Starts.{written_of};
 ghost use Rattle.state_text.specs.Starts.{written_call_of};
-ghost use Rattle.notes_value.specs.FrameViews.{contract_of};
-ghost use Rattle.notes_value.specs.NoteViews.{notes_of};
-ghost use Rattle.notes_value.specs.Reads.{AreReadable, IsReadableContract};
 ghost use Rattle.table_run.specs.CalledRuns.{frame_of_rank, start_called, whole_in};
 ghost use Rattle.table_run.specs.Endings.{IsLinesFault, fault_of};
 ghost use Rattle.call_text.specs.Texts.{called_ending_of, frame_name_of};
@@ -25,9 +21,10 @@ use crate::texts::compared;
 use call_text::{CalledText, FrameName};
 use frame_replay::{bare, bound, numbered, step_of};
 use machine_law::Machine;
+use program_value::RankedFrame;
 use report_replay::{Replay, false_require, unaligned};
 use std::alloc::{AllocError, Global};
-use table_run::{EntryFault, RankedFrame, called_lines_ok, called_state, run_called};
+use table_run::{EntryFault, called_lines_ok, called_state, run_called};
 
 /// The answer where a line is the first that is false where the run of a frame begins: one that the notes require, or that its contract needs. The error is
 /// want of memory.
@@ -59,20 +56,16 @@ fn faulted(alloc: Global, frame: FrameName, fault: EntryFault) -> Result<Replay,
 /// memory.
 pub(crate) fn run_named<M: Machine>(
     alloc: Global,
-    frame: &RankedFrame,
+    frame: &RankedFrame<M>,
     text: &CalledText,
 ) -> Result<Replay, AllocError>
-    requires order { order_of frame.now.image.now ≡ M.machine.endian }
-    requires readable { AreReadable M.machine.has_register (notes_of frame.now.notes.now) }
-    requires contracts { All (λ x. IsReadableContract M.machine.has_register (contract_of x)) frame.now.contracts.now }
-    requires rank { frame.now.rank ≤ length frame.now.contracts.now }
-    requires start { IsWritten M.form (is_known_at (frame_of_rank M.machine frame.now).program) (written_of text.now.start) }
-    requires blocks { All (λ c. IsWrittenCall (whole_in M.machine frame.now) M.form (written_call_of c)) text.now.calls.items }
+    requires start { IsWritten M.form (is_known_at (frame_of_rank frame.now).program) (written_of text.now.start) }
+    requires blocks { All (λ c. IsWrittenCall (whole_in frame.now) M.form (written_call_of c)) text.now.calls.items }
     requires calls { AllPairs (λ x y. x.step < y.step) text.now.calls.items }
     requires step { step_of (replays.bare (called_ending_of text.now.named)) ≤ last_step }
     ensures { IfOk result (λ r. plain_answer r.status r.text.items
-        ≡ call_run_answer (frame_of_rank M.machine frame.now) (called_ending_of text.now.named)
-        (start_called M.machine M.form frame.now (written_of text.now.start) (map written_call_of text.now.calls.items))
+        ≡ call_run_answer (frame_of_rank frame.now) (called_ending_of text.now.named)
+        (start_called M.form frame.now (written_of text.now.start) (map written_call_of text.now.calls.items))
         (map written_call_of text.now.calls.items)) }
 {
     let state = called_state::<M>(alloc, frame, &text.start)?;

@@ -1,14 +1,11 @@
 //! The known bytes that values go against, of a load of ARM from its own code.
 ghost use Rattle.std.specs.Prelude.{◌≡◌, ◌<◌};
 ghost use Rattle.bilv_spec.specs.Files.{order_of};
-ghost use Rattle.machine_spec.specs.Arm.{arm};
-ghost use Rattle.notes_value.specs.NoteViews.{notes_of};
-ghost use Rattle.notes_value.specs.Reads.{AreOver};
 ghost use Rattle.verdict.specs.Measures.{IsMeasurable};
 ghost use Rattle.word_spec.specs.Memory.{Little};
 ghost use Rattle.word_spec.specs.Profiles.{V4};
 
-use crate::programs::{ARM, Case, Program, file};
+use crate::programs::{ARM, Case, ENTRY, Program, file};
 use crate::studies::{broken_of, passive_of, unrolled};
 use arm_lift::Arm;
 use elf32_reader::{ElfFault, Image, read_image};
@@ -37,13 +34,16 @@ fn broken_unrolled(
 }
 
 /// The broken bytes of a program of an image.
-fn broken_case(alloc: Global, case: &Case, place: usize, at: u32) -> Result<[usize; 3], Fail>
-    requires order { order_of case.now.image.now ≡ Little }
-    requires over { AreOver (arm Little V4).has_register (arm Little V4).has_flag (notes_of case.now.notes.now) }
-    requires place { place < 31 }
+fn broken_case(
+    alloc: Global,
+    case: &Case<Arm<0, 0>>,
+    place: usize,
+    at: u32,
+) -> Result<[usize; 3], Fail>
+    requires { place < 31 }
 {
     let k = u64::from(case.k);
-    let unrolled = unrolled::<Arm<0, 0>>(alloc, case.image, case.notes, k)?;
+    let unrolled = unrolled::<Arm<0, 0>>(alloc, &case.program, k)?;
     let found = broken_unrolled(alloc, &unrolled, place, at)?;
     Ok(found)
 }
@@ -66,8 +66,7 @@ fn broken_by_notes(
     let notes = parse_notes(alloc, program.notes, layout, Dialect::Plain)?;
     let case = Case {
         words: program.words,
-        image,
-        notes: &notes,
+        program: program_value::Program::new(image, &notes, ENTRY),
         k: program.k,
     };
     broken_case(alloc, &case, place, at)

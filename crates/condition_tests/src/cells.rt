@@ -1,13 +1,9 @@
 //! The cells and the clauses of questions, against runs of the instruction table.
-ghost use Rattle.std.specs.Prelude.{◌≡◌, ◌<◌, true, false};
-ghost use Rattle.bilv_spec.specs.Files.{is_rv};
-ghost use Rattle.machine_spec.specs.RvMachine.{rv32};
+ghost use Rattle.std.specs.Prelude.{◌≡◌, ◌<◌, true};
 ghost use Rattle.frame_terms.specs.FrameCells as frames;
 ghost use Rattle.frame_terms.specs.HeadlessTerms.{as_cells};
 ghost use Rattle.mem_cells.specs.FrameViews.{frame_cells_of, frame_of_cells};
 ghost use Rattle.mem_cells.specs.Views.{cells_of, program_of_cells};
-ghost use Rattle.notes_value.specs.NoteViews.{notes_of};
-ghost use Rattle.notes_value.specs.Reads.{AreReadable};
 ghost use Rattle.question_form.specs.FrameQuestions.{heads_of_question};
 ghost use Rattle.term_spec.specs.Cells.{AreFormed};
 ghost use Rattle.verdict.specs.Rounds.{IsAskable};
@@ -20,6 +16,7 @@ use byte_mem::Endian;
 use cnf_form::Cnf;
 use frame_start::broken_bytes;
 use mem_cells::Celled;
+use rv_lift::Rv32;
 use std::alloc::{AllocError, Global};
 use term_dag::Reading;
 
@@ -72,11 +69,8 @@ fn ask_clauses(
     alloc: Global,
     celled: &Celled,
     clauses: &Cnf,
-    case: &Case,
-) -> Result<[usize; 2], AllocError>
-    requires machine { is_rv case.now.image.now ≡ true }
-    requires readable { AreReadable (rv32 false).has_register (notes_of case.now.notes.now) }
-{
+    case: &Case<Rv32<0>>,
+) -> Result<[usize; 2], AllocError> {
     let mut seed = 0x2545_f491;
     let mut trues = 0usize;
     let mut wrong = 0usize;
@@ -91,12 +85,14 @@ fn ask_clauses(
 }
 
 /// The same by the clauses of cells.
-pub fn count_clauses(alloc: Global, celled: &Celled, case: &Case) -> Result<[usize; 2], AllocError>
+pub fn count_clauses(
+    alloc: Global,
+    celled: &Celled,
+    case: &Case<Rv32<0>>,
+) -> Result<[usize; 2], AllocError>
     requires formed { AreFormed (program_of_cells celled.now) (cells_of celled.now) }
     requires flat { frame_cells_of celled.now ≡ as_cells (cells_of celled.now) }
     requires askable { IsAskable celled.now.question.now.passive.now }
-    requires machine { is_rv case.now.image.now ≡ true }
-    requires readable { AreReadable (rv32 false).has_register (notes_of case.now.notes.now) }
 {
     let clauses = blast(alloc, celled)?;
     ask_clauses(alloc, celled, &clauses, case)

@@ -1,16 +1,14 @@
 //! The questions of small programs as terms, against runs of the instruction table.
-ghost use Rattle.std.specs.Prelude.{◌≡◌, true, false};
-ghost use Rattle.bilv_spec.specs.Files.{is_rv};
-ghost use Rattle.machine_spec.specs.RvMachine.{rv32};
-ghost use Rattle.notes_value.specs.NoteViews.{notes_of};
-ghost use Rattle.notes_value.specs.Reads.{AreReadable};
+ghost use Rattle.std.specs.Prelude.{true};
 ghost use Rattle.verdict.specs.Rounds.{IsAskable};
 
 use crate::programs::Case;
 use crate::starts::{is_true, reading_with, registers, word_of};
+use bil_ast::BinaryOp;
 use question_form::{Kind, Passive, Question};
+use rv_lift::Rv32;
 use std::alloc::{AllocError, Global};
-use term_dag::{Dag, Node, Op, Term};
+use term_dag::{Dag, Node, Term};
 use weakest_pre::question;
 
 /// Whether a question is true under a reading, by its term.
@@ -26,10 +24,7 @@ fn is_told(
 }
 
 /// Of how many of 100 readings a question is true by their runs, and of how many its term says otherwise.
-fn ask(alloc: Global, question: &Question, case: &Case) -> Result<[usize; 2], AllocError>
-    requires machine { is_rv case.now.image.now ≡ true }
-    requires readable { AreReadable (rv32 false).has_register (notes_of case.now.notes.now) }
-{
+fn ask(alloc: Global, question: &Question, case: &Case<Rv32<0>>) -> Result<[usize; 2], AllocError> {
     let mut seed = 0x2545_f491;
     let mut trues = 0usize;
     let mut wrong = 0usize;
@@ -48,11 +43,9 @@ fn ask_kind(
     alloc: Global,
     passive: &Passive,
     kind: Kind,
-    case: &Case,
+    case: &Case<Rv32<0>>,
 ) -> Result<[usize; 2], AllocError>
     requires askable { IsAskable passive.now }
-    requires machine { is_rv case.now.image.now ≡ true }
-    requires readable { AreReadable (rv32 false).has_register (notes_of case.now.notes.now) }
 {
     let question = question(alloc, passive, kind)?;
     ask(alloc, &question, case)
@@ -62,11 +55,9 @@ fn ask_kind(
 pub fn count_questions(
     alloc: Global,
     passive: &Passive,
-    case: &Case,
+    case: &Case<Rv32<0>>,
 ) -> Result<[usize; 4], AllocError>
     requires askable { IsAskable passive.now }
-    requires machine { is_rv case.now.image.now ≡ true }
-    requires readable { AreReadable (rv32 false).has_register (notes_of case.now.notes.now) }
 {
     let [entries, first] = ask_kind(alloc, passive, Kind::Entry, case)?;
     let [fails, second] = ask_kind(alloc, passive, Kind::Fail, case)?;
@@ -117,7 +108,7 @@ pub fn equalities(dag: &Dag) -> usize {
     for place in 0..dag.nodes() {
         if let Some(
             Node::Binary {
-                op: Op::Equal,
+                op: BinaryOp::Equal,
                 width: 32,
                 ..
             },

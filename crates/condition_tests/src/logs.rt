@@ -1,11 +1,7 @@
 //! The logs in the evidence of verdicts.
-ghost use Rattle.std.specs.Prelude.{◌≡◌, true, false};
-ghost use Rattle.bilv_spec.specs.Files.{is_rv};
-ghost use Rattle.machine_spec.specs.RvMachine.{rv32};
-ghost use Rattle.notes_value.specs.NoteViews.{notes_of};
-ghost use Rattle.notes_value.specs.Reads.{AreOver, AreReadable};
+ghost use Rattle.std.specs.Prelude.{false};
 
-use crate::programs::{Case, ENTRY};
+use crate::programs::Case;
 use cnf_form::{Log, Proof, are_on_variables};
 use refutation_checker::print_lrat;
 use rv_lift::Rv32;
@@ -32,22 +28,14 @@ fn is_given(alloc: Global, proof: &Proof) -> Result<bool, AllocError> {
 }
 
 /// The verdict on a program within the budgets where none is given.
-fn verdict_on(alloc: Global, case: &Case) -> Result<Verdict, AllocError>
-    requires machine { is_rv case.now.image.now ≡ true }
-    requires readable { AreReadable (rv32 false).has_register (notes_of case.now.notes.now) }
-    requires over { AreOver (rv32 false).has_register (rv32 false).has_flag (notes_of case.now.notes.now) }
-{
+fn verdict_on(alloc: Global, case: &Case<Rv32<0>>) -> Result<Verdict, AllocError> {
     let budget = Budget::standard();
-    let verdict = verify::<Rv32<0>>(alloc, case.image, case.notes, ENTRY, &budget)?;
+    let verdict = verify::<Rv32<0>>(alloc, &case.program, &budget)?;
     Ok(verdict)
 }
 
 /// How many logs of a program that holds are those that the search gives: 2 at most.
-pub fn count_given(alloc: Global, case: &Case) -> Result<usize, AllocError>
-    requires machine { is_rv case.now.image.now ≡ true }
-    requires readable { AreReadable (rv32 false).has_register (notes_of case.now.notes.now) }
-    requires over { AreOver (rv32 false).has_register (rv32 false).has_flag (notes_of case.now.notes.now) }
-{
+pub fn count_given(alloc: Global, case: &Case<Rv32<0>>) -> Result<usize, AllocError> {
     match verdict_on(alloc, case)? {
         Verdict::Holds { fail, turn, .. } => {
             let first = is_given(alloc, &fail)?;

@@ -2,8 +2,7 @@
 ghost use Rattle.std.specs.Prelude.{IfOk};
 ghost use Rattle.asked_bytes.specs.AskedBytes.{AreRising};
 
-use elf32_reader::Image;
-use notes_value::Notes;
+use machine_law::Machine;
 use std::alloc::{AllocError, Global};
 
 /// The number of RISC-V in a file's header.
@@ -31,12 +30,11 @@ pub struct Program<'a> {
     pub k: u8,
 }
 
-/// The same with what was read.
-#[derive(Clone, Copy)]
-pub struct Case<'a, 'b> {
-    pub words: &'a [u32],
-    pub image: &'a Image<'b>,
-    pub notes: &'a Notes,
+/// The same with what was read, on a machine.
+#[derive_where(Clone, Copy)]
+pub struct Case<'a, 'b, M: Machine> {
+    pub words: &'b [u32],
+    pub program: program_value::Program<'a, M>,
     pub k: u8,
 }
 

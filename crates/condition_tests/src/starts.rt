@@ -1,19 +1,15 @@
 //! Starts, once as what terms are read under and once as what a run begins with.
 ghost use Rattle.std.specs.Prelude.{◌≡◌, true, false, IfOk, length};
-ghost use Rattle.bilv_spec.specs.Files.{is_rv, program_of};
+ghost use Rattle.program_value.specs.Programs.{program_of};
 ghost use Rattle.bilv_spec.specs.Points.{is_known_at};
-ghost use Rattle.machine_spec.specs.RvMachine.{rv32};
 ghost use Rattle.machine_spec.specs.StateText.{IsWritten, rv_layout};
-ghost use Rattle.notes_value.specs.NoteViews.{notes_of};
-ghost use Rattle.notes_value.specs.Reads.{AreReadable};
 ghost use Rattle.start_value.specs.Starts.{written_of};
 
 use crate::programs::{Case, ENTRY};
 use bv_word::Word;
 use byte_mem::{Bytes32, Endian};
-use elf32_reader::Image;
 use known_bytes::known_stretch;
-use notes_value::Notes;
+use program_value::Program;
 use question_form::Asked;
 use rv_lift::Rv32;
 use start_value::Start;
@@ -75,14 +71,13 @@ pub fn registers(seed: &mut u32) -> [u32; 31] {
 /// The start with registers, in whose memory the file gives all bytes but one that are not 0. The error is that it gives that byte too, or want of memory.
 fn start_with(
     alloc: Global,
-    image: &Image,
-    notes: &Notes,
+    program: &Program<Rv32<0>>,
     registers: &[u32],
 ) -> Result<Start, AllocError>
     requires { length registers.now ≡ 31 }
-    ensures { IfOk result (λ s. IsWritten (rv_layout false) (is_known_at (program_of (rv32 false) image.now (notes_of notes.now) 65536)) (written_of s)) }
+    ensures { IfOk result (λ s. IsWritten (rv_layout false) (is_known_at (program_of program.now)) (written_of s)) }
 {
-    let stretch = known_stretch(image, notes, DATA);
+    let stretch = known_stretch(program.image, program.notes, DATA);
     if stretch.known {
         return Err(AllocError);
     }
@@ -100,21 +95,20 @@ fn start_with(
 /// Whether a question is true of the start with registers, by its run. The error is a run of more than 1,000 steps, or want of memory.
 pub fn is_true(
     alloc: Global,
-    case: &Case,
+    case: &Case<Rv32<0>>,
     registers: &[u32],
     asked: Asked,
 ) -> Result<bool, AllocError>
-    requires machine { is_rv case.now.image.now ≡ true }
-    requires readable { AreReadable (rv32 false).has_register (notes_of case.now.notes.now) }
     requires registers { length registers.now ≡ 31 }
 {
-    let (image, notes, k) = (case.image, case.notes, u64::from(case.k));
-    let start = start_with(alloc, image, notes, registers)?;
-    let state = start_state::<Rv32<0>>(alloc, image, notes, ENTRY, &start)?;
-    if entry_ok::<Rv32<0>>(image, notes, &state).is_err() {
+    let program = &case.program;
+    let k = u64::from(case.k);
+    let start = start_with(alloc, program, registers)?;
+    let state = start_state::<Rv32<0>>(alloc, program, &start)?;
+    if entry_ok::<Rv32<0>>(program, &state).is_err() {
         return Ok(false);
     }
-    match run::<Rv32<0>>(alloc, image, notes, ENTRY, &start, Some(k), 1000)? {
+    match run::<Rv32<0>>(alloc, program, &start, Some(k), 1000)? {
         Ending::Exit { .. } => Ok(asked == Asked::Entry),
         Ending::Failed { .. } => Ok(asked == Asked::Entry || asked == Asked::Fail),
         Ending::Turned { .. } => Ok(asked == Asked::Entry || asked == Asked::Turn),

@@ -1,13 +1,10 @@
 //! What is counted of small programs, each made a passive program.
 ghost use Rattle.std.specs.Prelude.{◌≡◌, ◌<◌, ◌≤◌, true, false, IfOk};
-ghost use Rattle.bilv_spec.specs.Files.{is_rv, order_of, program_of};
-ghost use Rattle.machine_spec.specs.RvMachine.{rv32};
+ghost use Rattle.bilv_spec.specs.Files.{is_rv};
 ghost use Rattle.frame_terms.specs.HeadlessTerms.{as_cells};
 ghost use Rattle.frame_start.specs.Segments.{IsFrameAskable};
 ghost use Rattle.mem_cells.specs.FrameViews.{frame_cells_of};
 ghost use Rattle.mem_cells.specs.Views.{cells_of, program_of_cells};
-ghost use Rattle.notes_value.specs.NoteViews.{notes_of};
-ghost use Rattle.notes_value.specs.Reads.{AreOver, AreReadable};
 ghost use Rattle.verdict.specs.Measures.{IsMeasurable};
 ghost use Rattle.asked_bytes.specs.AskedBytes.{AreRising};
 ghost use Rattle.verdict.specs.Rounds.{IsAskable, IsDecidable};
@@ -24,7 +21,6 @@ use flow_graph::descend;
 use machine_law::Machine;
 use mem_cells::{Celled, cells_some, frame_cells};
 use notes_lang::{Dialect, parse_notes};
-use notes_value::Notes;
 use passify::passive;
 use program_points::PointsFault;
 use question_form::{Asked, Kind, Passive, Question, Unrolled};
@@ -61,18 +57,15 @@ pub enum Study {
 /// A program of a machine unrolled.
 pub fn unrolled<'a, M: Machine>(
     alloc: Global,
-    image: &'a Image<'a>,
-    notes: &'a Notes,
+    program: &program_value::Program<'a, M>,
     k: u64,
 ) -> Result<Unrolled<'a>, PointsFault>
-    requires order { order_of image.now ≡ M.machine.endian }
-    requires over { AreOver M.machine.has_register M.machine.has_flag (notes_of notes.now) }
-    requires k { k ≤ 4096 }
+    requires { k ≤ 4096 }
     ensures { IfOk result IsMeasurable }
 {
-    image.bytes();
-    let graph = descend::<M>(alloc, image, notes, ENTRY)?;
-    unroll::<M>(alloc, &graph, image, notes, ENTRY, k, 65536)
+    program.image.bytes();
+    let graph = descend::<M>(alloc, program)?;
+    unroll::<M>(alloc, &graph, program, k, 65536)
 }
 
 /// Its passive program.
@@ -88,14 +81,12 @@ pub fn passive_of<'a>(alloc: Global, unrolled: &'a Unrolled<'a>) -> Result<Passi
 fn study_cells(
     alloc: Global,
     celled: &Celled,
-    case: &Case,
+    case: &Case<Rv32<0>>,
     study: Study,
 ) -> Result<[usize; 4], AllocError>
     requires formed { AreFormed (program_of_cells celled.now) (cells_of celled.now) }
     requires flat { frame_cells_of celled.now ≡ as_cells (cells_of celled.now) }
     requires askable { IsAskable celled.now.question.now.passive.now }
-    requires machine { is_rv case.now.image.now ≡ true }
-    requires readable { AreReadable (rv32 false).has_register (notes_of case.now.notes.now) }
 {
     let (reads, pairs) = (celled.addresses.len(), celled.agrees.len());
     match study {
@@ -142,13 +133,11 @@ fn asked_of(alloc: Global, study: Study) -> Result<Vec<u32>, AllocError>
 fn study_question(
     alloc: Global,
     question: &Question,
-    case: &Case,
+    case: &Case<Rv32<0>>,
     study: Study,
 ) -> Result<[usize; 4], AllocError>
     requires askable { IsAskable question.now.passive.now }
     requires tells { TellsQuestion (program_of_question question.now) (question_of question.now) (term_of question.now) }
-    requires machine { is_rv case.now.image.now ≡ true }
-    requires readable { AreReadable (rv32 false).has_register (notes_of case.now.notes.now) }
 {
     let asked = asked_of(alloc, study)?;
     let celled = cells_some(alloc, question, &asked)?;
@@ -159,12 +148,10 @@ fn study_question(
 fn study_fails(
     alloc: Global,
     passive: &Passive,
-    case: &Case,
+    case: &Case<Rv32<0>>,
     study: Study,
 ) -> Result<[usize; 4], AllocError>
     requires askable { IsAskable passive.now }
-    requires machine { is_rv case.now.image.now ≡ true }
-    requires readable { AreReadable (rv32 false).has_register (notes_of case.now.notes.now) }
 {
     let question = question(alloc, passive, Kind::Fail)?;
     if study == Study::Selections {
@@ -179,12 +166,10 @@ fn study_fails(
 fn study_passive(
     alloc: Global,
     passive: &Passive,
-    case: &Case,
+    case: &Case<Rv32<0>>,
     study: Study,
 ) -> Result<[usize; 4], AllocError>
     requires decidable { IsDecidable passive.now }
-    requires machine { is_rv case.now.image.now ≡ true }
-    requires readable { AreReadable (rv32 false).has_register (notes_of case.now.notes.now) }
 {
     match study {
         Study::Questions => count_questions(alloc, passive, case),
@@ -200,28 +185,22 @@ fn study_passive(
 fn study_unrolled(
     alloc: Global,
     unrolled: &Unrolled,
-    case: &Case,
+    case: &Case<Rv32<0>>,
     study: Study,
 ) -> Result<[usize; 4], AllocError>
     requires measurable { IsMeasurable unrolled.now }
-    requires machine { is_rv case.now.image.now ≡ true }
-    requires readable { AreReadable (rv32 false).has_register (notes_of case.now.notes.now) }
 {
     let passive = passive_of(alloc, unrolled)?;
     study_passive(alloc, &passive, case, study)
 }
 
 /// The counts of a program of an image.
-fn study_program(alloc: Global, case: &Case, study: Study) -> Result<[usize; 4], Fail>
-    requires machine { is_rv case.now.image.now ≡ true }
-    requires readable { AreReadable (rv32 false).has_register (notes_of case.now.notes.now) }
-    requires over { AreOver (rv32 false).has_register (rv32 false).has_flag (notes_of case.now.notes.now) }
-{
+fn study_program(alloc: Global, case: &Case<Rv32<0>>, study: Study) -> Result<[usize; 4], Fail> {
     if study == Study::Logs {
         return Ok([count_given(alloc, case)?, 0, 0, 0]);
     }
     let k = u64::from(case.k);
-    let unrolled = unrolled::<Rv32<0>>(alloc, case.image, case.notes, k)?;
+    let unrolled = unrolled::<Rv32<0>>(alloc, &case.program, k)?;
     let counts = study_unrolled(alloc, &unrolled, case, study)?;
     Ok(counts)
 }
@@ -239,8 +218,7 @@ fn study_notes(
     let notes = parse_notes(alloc, program.notes, layout, Dialect::Plain)?;
     let case = Case {
         words: program.words,
-        image,
-        notes: &notes,
+        program: program_value::Program::new(image, &notes, ENTRY),
         k: program.k,
     };
     study_program(alloc, &case, study)

@@ -1,29 +1,24 @@
 -- The graph of notes with contracts, as a value.
 use Rattle.std.specs.Prelude.{ℕ, ◌≡◌, ◌<◌, ◌↔◌, ◌||◌, Bool, true, All, List, Contains, map}
 use Rattle.answer_spec.specs.FrameGraphs.{IsAddress, IsLive}
-use Rattle.bilv_spec.specs.Files.{program_of}
 use Rattle.bilv_spec.specs.LiveFlags.{asserts_flag, ensures_flag}
 use Rattle.bilv_spec.specs.Graph.{may_return, successors_at}
 use Rattle.bilv_spec.specs.Points.{file_row, file_word}
-use Rattle.bilv_spec.specs.Run.{fetchable}
+use Rattle.bilv_spec.specs.Run.{Program, fetchable}
 use Rattle.frame_spec.specs.Frames as frames
 use Rattle.frame_spec.specs.Frames.{contract_at}
 use Rattle.frame_spec.specs.FrameUnrolling.{contract_reads, exit_reads}
 use Rattle.frame_spec.specs.FrameVerdict.{Whole}
-use Rattle.machine_spec.specs.Machine.{Machine}
 use Rattle.notes_value.specs.FrameViews.{contract_of}
-use Rattle.notes_value.specs.NoteViews.{notes_of}
 use Rattle.notes_value.specs.declared.notes.Contract.{Contract}
-use Rattle.notes_value.specs.declared.notes.Notes.{Notes}
 use Rattle.graph_nodes.specs.Graphs.{IsFlagSet, IsFlagUseAt, IsSameNode, addresses_of, has_flag, node_word, row_length, row_links, successors_of}
 use Rattle.graph_nodes.specs.Places.{AreRising}
 use Rattle.graph_nodes.specs.declared.nodes.Node.{Node}
 use Rattle.graph_nodes.specs.declared.nodes.Graph.{Graph}
 
 -- a program with invariants and contracts
-abbrev pub whole_by : Machine → (file : List ℕ) → Notes → (heads : List ℕ) → List Contract → (entry : ℕ) → Whole
-whole_by m file notes heads contracts entry =
-    record { program = program_of m file (notes_of notes) entry; invariants = heads; contracts = map contract_of contracts }
+abbrev pub whole_with : Program → (heads : List ℕ) → List Contract → Whole
+whole_with p heads contracts = record { program = p; invariants = heads; contracts = map contract_of contracts }
 
 -- a node is another, with flags that a contract step reads among those that are read at its address
 pub record IsAsked (contracts : List frames.Contract) (old new : Node) : Type 0 where

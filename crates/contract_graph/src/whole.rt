@@ -2,18 +2,18 @@
 ghost use Rattle.std.specs.Prelude.{◌≡◌, ℕ, List, IfOk, map};
 ghost use Rattle.std.specs.List.{AllZip};
 ghost use Rattle.answer_spec.specs.FrameGraphs.{IsFrameGraphText};
-ghost use Rattle.bilv_spec.specs.Files.{order_of};
+ghost use Rattle.program_value.specs.Programs.{program_of};
 ghost use Rattle.notes_value.specs.FrameViews.{contract_of};
-ghost use Rattle.contract_graph.specs.Wholes.{IsAsked, IsWholeGraph, LiveStayWhole, whole_by};
+ghost use Rattle.contract_graph.specs.Wholes.{IsAsked, IsWholeGraph, LiveStayWhole, whole_with};
 
 use crate::flags::{read_at, read_at_exits};
-use elf32_reader::Image;
 use flag_live::trim;
 use flow_graph::descend_from;
 use graph_nodes::{Graph, Node};
 use graph_text::print_graph;
 use machine_law::Machine;
-use notes_value::{Contract, Notes};
+use notes_value::Contract;
+use program_value::Program;
 use std::alloc::{AllocError, Global};
 
 /// The addresses of contracts. The error is want of memory.
@@ -36,25 +36,21 @@ fn ask(nodes: &mut [Node], contracts: &[Contract])
     }
 }
 
-/// The flow graph of a machine's program over a file and notes with contracts, with the assignments of flags that are live. `entry` is the address of the
-/// function.
+/// The flow graph of a program whose notes have contracts, with the assignments of flags that are live.
 ///
 /// # Errors
 ///
 /// Want of memory.
 pub fn whole_graph<M: Machine>(
     alloc: Global,
-    image: &Image,
-    notes: &Notes,
+    program: &Program<M>,
     contracts: &[Contract],
-    entry: u32,
 ) -> Result<Graph, AllocError>
-    requires order { order_of image.now ≡ M.machine.endian }
-    ensures graph { (heads : List ℕ) → IfOk result (IsWholeGraph (whole_by M.machine image.now notes.now heads contracts.now entry)) }
-    ensures live { (heads : List ℕ) → IfOk result (LiveStayWhole (whole_by M.machine image.now notes.now heads contracts.now entry)) }
+    ensures graph { (heads : List ℕ) → IfOk result (IsWholeGraph (whole_with (program_of program.now) heads contracts.now)) }
+    ensures live { (heads : List ℕ) → IfOk result (LiveStayWhole (whole_with (program_of program.now) heads contracts.now)) }
 {
     let others = addresses(alloc, contracts)?;
-    let mut graph = descend_from::<M>(alloc, image, notes, entry, &others)?;
+    let mut graph = descend_from::<M>(alloc, program, &others)?;
     ask(graph.nodes.as_mut_slice(), contracts);
     graph.ensured |= read_at_exits(contracts);
     let live = trim(alloc, &graph, 0)?;
@@ -68,15 +64,12 @@ pub fn whole_graph<M: Machine>(
 /// Want of memory.
 pub fn print_whole_graph<M: Machine>(
     alloc: Global,
-    image: &Image,
-    notes: &Notes,
+    program: &Program<M>,
     contracts: &[Contract],
-    entry: u32,
 ) -> Result<Vec<u8>, AllocError>
-    requires order { order_of image.now ≡ M.machine.endian }
-    ensures { (heads : List ℕ) → IfOk result (λ v. IsFrameGraphText (whole_by M.machine image.now notes.now heads contracts.now entry) v.items) }
+    ensures { (heads : List ℕ) → IfOk result (λ v. IsFrameGraphText (whole_with (program_of program.now) heads contracts.now) v.items) }
 {
-    let graph = whole_graph::<M>(alloc, image, notes, contracts, entry)?;
+    let graph = whole_graph::<M>(alloc, program, contracts)?;
     let text = print_graph(alloc, &graph)?;
     Ok(text)
 }

@@ -29,9 +29,9 @@ use std::alloc::{AllocError, Global};
 
 /// Two functions with their links.
 #[derive(Clone, Copy)]
-pub(crate) struct Pair<'s, 'a, 'b> {
-    first: &'s Sided<'a, 'b>,
-    second: &'s Sided<'a, 'b>,
+pub(crate) struct Pair<'s, 'a> {
+    first: &'s Sided<'a>,
+    second: &'s Sided<'a>,
     links: &'s [Link],
 }
 

@@ -38,8 +38,9 @@ pub(crate) fn enter_by<M: Machine>(
     requires probes { AreReadableOn (machine_in side.now.layout).has_register half probes.now }
     ensures { IfOk result (IsEntered half (program_of_side side.now) (start_of_side side.now start.now).state probes.now) }
 {
-    let state = start_state::<M>(alloc, side.image, side.notes, side.entry, start)?;
-    if let Err(fault) = lines_ok::<M>(side.image, side.notes, &state) {
+    let program = side.program::<M>();
+    let state = start_state::<M>(alloc, &program, start)?;
+    if let Err(fault) = lines_ok::<M>(&program, &state) {
         return Ok(Entered::Faulty(fault));
     }
     let values = values_on(alloc, &state, half, probes)?;
@@ -62,8 +63,8 @@ pub(crate) fn leave_by<M: Machine>(
     requires probes { AreReadableOn (machine_in side.now.layout).has_register half probes.now }
     ensures { IfOk result (IsLeft half (program_of_side side.now) (start_of_side side.now start.now) number probes.now) }
 {
-    let Some(state) = exit_state::<M>(alloc, side.image, side.notes, side.entry, start, number)?
-    else {
+    let program = side.program::<M>();
+    let Some(state) = exit_state::<M>(alloc, &program, start, number)? else {
         return Ok(None);
     };
     let values = values_on(alloc, &state, half, probes)?;
@@ -83,9 +84,8 @@ pub(crate) fn end_by<M: Machine>(
     requires number { number ≤ last_step }
     ensures { IfOk result (λ e. found_of e ≡ found_in (program_of_side side.now) (start_of_side side.now start.now) number) }
 {
+    let program = side.program::<M>();
     let limit = number + 1;
-    let ending = run::<M>(
-        alloc, side.image, side.notes, side.entry, start, None, limit,
-    )?;
+    let ending = run::<M>(alloc, &program, start, None, limit)?;
     Ok(ending)
 }

@@ -1,21 +1,17 @@
 //! The descent from the function's address to every address of the flow graph.
-ghost use Rattle.std.specs.Prelude.{◌≡◌, IfOk, OnOk, map, [], ◌∷◌};
+ghost use Rattle.std.specs.Prelude.{IfOk, OnOk, map, [], ◌∷◌};
 ghost use Rattle.std.specs.List.Sorted.{IsNonDecreasingBy, IsPermutation};
-ghost use Rattle.bilv_spec.specs.Files.{order_of, program_of};
-ghost use Rattle.notes_value.specs.NoteViews.{notes_of};
 ghost use Rattle.notes_index.specs.Indexed.{AreIndexed};
 ghost use Rattle.graph_nodes.specs.Graphs.{IsGraph, AllStay};
-ghost use Rattle.flow_graph.specs.Programs.{program};
+ghost use Rattle.program_value.specs.Programs.{program_of};
 ghost use Rattle.flow_graph.specs.Walks.{IsSeen, IsMore, IsWhole, IsGraphFrom};
 
 use crate::flags::ensured;
 use crate::node::node;
-use crate::program::Program;
-use elf32_reader::Image;
 use graph_nodes::{Graph, Node, Successor};
 use machine_law::{Machine, is_narrow};
 use notes_index::{Index, index_of};
-use notes_value::Notes;
+use program_value::Program;
 use std::alloc::{AllocError, Global};
 use std::collections::BTreeSet;
 
@@ -68,13 +64,12 @@ fn find_all(
 /// The nodes of all addresses to which a program's entry and other roots lead, in the order in which they are found. The error is want of memory.
 fn all_nodes<M: Machine>(
     alloc: Global,
-    p: &Program,
+    p: &Program<M>,
     others: &[u32],
     index: &Index,
 ) -> Result<Vec<Node>, AllocError>
-    requires order { order_of p.now.image.now ≡ M.machine.endian }
     requires index { AreIndexed p.now.notes.now index.now }
-    ensures { IfOk result (λ v. IsWhole (program M.machine p.now) others.now v.items) }
+    ensures { IfOk result (λ v. IsWhole (program_of p.now) others.now v.items) }
 {
     let mut found = Vec::new(alloc);
     let mut seen = BTreeSet::new(alloc);
@@ -99,7 +94,7 @@ fn sorted(mut nodes: Vec<Node>) -> Result<Vec<Node>, AllocError>
     Ok(nodes)
 }
 
-/// The flow graph of a machine's program over a file and notes whose function is at `entry`, with all addresses to which other roots lead; each assignment of a
+/// The flow graph of a program, with all addresses to which other roots lead; each assignment of a
 /// flag stays. Roots that are found already, or stand more than once, change nothing.
 ///
 /// # Errors
@@ -107,44 +102,30 @@ fn sorted(mut nodes: Vec<Node>) -> Result<Vec<Node>, AllocError>
 /// Want of memory.
 pub fn descend_from<M: Machine>(
     alloc: Global,
-    image: &Image,
-    notes: &Notes,
-    entry: u32,
+    program: &Program<M>,
     others: &[u32],
 ) -> Result<Graph, AllocError>
-    requires order { order_of image.now ≡ M.machine.endian }
-    ensures graph { IfOk result (λ g. IsGraphFrom (program_of M.machine image.now (notes_of notes.now) entry) others.now g) }
+    ensures graph { IfOk result (λ g. IsGraphFrom (program_of program.now) others.now g) }
     ensures stay { IfOk result (λ g. AllStay g) }
 {
-    let index = index_of(alloc, notes)?;
-    let p = Program {
-        image,
-        notes,
-        entry,
-    };
-    let nodes = sorted(all_nodes::<M>(alloc, &p, others, &index)?)?;
+    let index = index_of(alloc, program.notes)?;
+    let nodes = sorted(all_nodes::<M>(alloc, program, others, &index)?)?;
     Ok(Graph {
         narrow: is_narrow::<M>(),
         nodes,
-        ensured: ensured(&notes.ensured),
+        ensured: ensured(&program.notes.ensured),
     })
 }
 
-/// The flow graph of a machine's program over a file and notes whose function is at an address; each assignment of a flag stays.
+/// The flow graph of a program; each assignment of a flag stays.
 ///
 /// # Errors
 ///
 /// Want of memory.
-pub fn descend<M: Machine>(
-    alloc: Global,
-    image: &Image,
-    notes: &Notes,
-    entry: u32,
-) -> Result<Graph, AllocError>
-    requires order { order_of image.now ≡ M.machine.endian }
-    ensures graph { IfOk result (λ g. IsGraph (program_of M.machine image.now (notes_of notes.now) entry) g) }
+pub fn descend<M: Machine>(alloc: Global, program: &Program<M>) -> Result<Graph, AllocError>
+    ensures graph { IfOk result (λ g. IsGraph (program_of program.now) g) }
     ensures stay { IfOk result (λ g. AllStay g) }
 {
-    let graph = descend_from::<M>(alloc, image, notes, entry, &[])?;
+    let graph = descend_from::<M>(alloc, program, &[])?;
     Ok(graph)
 }

@@ -5,7 +5,6 @@ mod descent;
 mod flags;
 mod listing;
 mod node;
-mod program;
 mod rows;
 mod successors;
 mod targets;

@@ -1,17 +1,16 @@
 //! The node of an address.
 ghost use Rattle.std.specs.Prelude.{◌≡◌, ◌&&◌, not, IfOk};
-ghost use Rattle.bilv_spec.specs.Files.{order_of};
 ghost use Rattle.notes_index.specs.Indexed.{AreIndexed};
 ghost use Rattle.graph_nodes.specs.Graphs.{IsNode};
-ghost use Rattle.flow_graph.specs.Programs.{program};
+ghost use Rattle.program_value.specs.Programs.{program_of};
 
 use crate::flags::asserted;
-use crate::program::Program;
 use crate::rows::{is_fetchable, row, word};
 use crate::successors::successors;
 use graph_nodes::Node;
 use machine_law::{FlagUse, Machine, Succ, length};
 use notes_index::Index;
+use program_value::Program;
 use std::alloc::{AllocError, Global};
 
 /// The flags of an address without a row: a run does not go on behind it.
@@ -31,14 +30,13 @@ fn may_return(ways: Succ) -> bool
 /// The node of an address, where each assignment of a flag stays. The error is want of memory.
 pub(crate) fn node<M: Machine>(
     alloc: Global,
-    p: &Program,
+    p: &Program<M>,
     index: &Index,
     at: u32,
 ) -> Result<Node, AllocError>
-    requires order { order_of p.now.image.now ≡ M.machine.endian }
     requires index { AreIndexed p.now.notes.now index.now }
     ensures at { IfOk result (λ n. n.at ≡ at) }
-    ensures is { IfOk result (λ n. IsNode (program M.machine p.now) n) }
+    ensures is { IfOk result (λ n. IsNode (program_of p.now) n) }
     ensures stay { IfOk result (λ n. n.keeps ≡ n.flags.assigns) }
 {
     let word = word::<M>(p, at);

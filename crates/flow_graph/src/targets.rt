@@ -1,21 +1,20 @@
 //! The targets that an indirect jump may have whatever the stack is.
-ghost use Rattle.std.specs.Prelude.{◌≡◌, ◌++◌, ℕ, Bool, map, Some, IfOk, OnOk, if◌then◌else◌, []};
-ghost use Rattle.std.specs.List.{list_any};
+ghost use Rattle.std.specs.Prelude.{◌≡◌, ◌++◌, map, Some, IfOk, OnOk, if◌then◌else◌, []};
 ghost use Rattle.word_spec.specs.Words.{sub};
-ghost use Rattle.bilv_spec.specs.Files.{order_of};
 ghost use Rattle.machine_spec.specs.Machine.{pair_of};
 ghost use Rattle.bilv_spec.specs.Points as points;
 ghost use Rattle.bilv_spec.specs.Run as run;
 ghost use Rattle.notes_value.specs.NoteViews.{targets_of};
 ghost use Rattle.notes_index.specs.Indexed.{targets_places, IsIndex};
-ghost use Rattle.flow_graph.specs.Programs.{program, IsSameSet};
+ghost use Rattle.program_value.specs.Programs.{program_of};
+ghost use Rattle.flow_graph.specs.Programs.{IsSameSet};
 
-use crate::program::Program;
 use crate::rows::{row, word};
 use file_words::all_kept;
 use machine_law::Machine;
 use notes_index::{Index, group};
 use notes_value::Targets;
+use program_value::Program;
 use std::alloc::{AllocError, Global};
 
 /// The targets that the notes list for an address. The error is want of memory.
@@ -37,9 +36,8 @@ fn listed(
 }
 
 /// The target of the pair of an instruction at an address with the one before it.
-fn pair_target<M: Machine>(p: &Program, insn: &M::Insn, at: u32) -> Option<u32>
-    requires { order_of p.now.image.now ≡ M.machine.endian }
-    ensures { pair_of (run.row_at (program M.machine p.now) (points.file_word (program M.machine p.now)) (sub 32 at 4)) (Some (M.Machine.row insn.now)) at
+fn pair_target<M: Machine>(p: &Program<M>, insn: &M::Insn, at: u32) -> Option<u32>
+    ensures { pair_of (run.row_at (program_of p.now) (points.file_word (program_of p.now)) (sub 32 at 4)) (Some (M.Machine.row insn.now)) at
         ≡ result }
 {
     match row::<M>(p, at.wrapping_sub(4)) {
@@ -49,9 +47,8 @@ fn pair_target<M: Machine>(p: &Program, insn: &M::Insn, at: u32) -> Option<u32>
 }
 
 /// The word of the literal of an instruction at an address, where its bytes are kept.
-fn literal_word<M: Machine>(p: &Program, insn: &M::Insn, at: u32) -> Option<u32>
-    requires { order_of p.now.image.now ≡ M.machine.endian }
-    ensures { run.literal_target (program M.machine p.now) (points.file_word (program M.machine p.now)) ((M.Machine.row insn.now).literal at)
+fn literal_word<M: Machine>(p: &Program<M>, insn: &M::Insn, at: u32) -> Option<u32>
+    ensures { run.literal_target (program_of p.now) (points.file_word (program_of p.now)) ((M.Machine.row insn.now).literal at)
         ≡ run.some_of result }
 {
     match M::literal(insn, at) {
@@ -81,14 +78,13 @@ fn push_some(found: &mut Vec<u32>, target: Option<u32>) -> Result<(), AllocError
 /// The targets of an indirect jump of an instruction at an address: those of the notes, of its pair, of its literal. The error is want of memory.
 fn named<M: Machine>(
     alloc: Global,
-    p: &Program,
+    p: &Program<M>,
     index: &Index,
     insn: &M::Insn,
     at: u32,
 ) -> Result<Vec<u32>, AllocError>
-    requires order { order_of p.now.image.now ≡ M.machine.endian }
     requires index { IsIndex (targets_places p.now.notes.now.targets.items) index.now.targets.items }
-    ensures { IfOk result (λ v. IsSameSet v.items (run.named (program M.machine p.now) (points.file_word (program M.machine p.now))
+    ensures { IfOk result (λ v. IsSameSet v.items (run.named (program_of p.now) (points.file_word (program_of p.now))
         (M.Machine.row insn.now) at)) }
 {
     let mut found = listed(alloc, &p.notes.targets, &index.targets, at)?;
@@ -100,16 +96,15 @@ fn named<M: Machine>(
 /// The targets of an instruction at an address that an address which the state gives may be, where it may jump to one. The error is want of memory.
 pub(crate) fn indirect_targets<M: Machine>(
     alloc: Global,
-    p: &Program,
+    p: &Program<M>,
     index: &Index,
     insn: &M::Insn,
     at: u32,
     indirect: bool,
 ) -> Result<Vec<u32>, AllocError>
-    requires order { order_of p.now.image.now ≡ M.machine.endian }
     requires index { IsIndex (targets_places p.now.notes.now.targets.items) index.now.targets.items }
     ensures { IfOk result (λ v. IsSameSet v.items (if indirect
-        then run.named (program M.machine p.now) (points.file_word (program M.machine p.now)) (M.Machine.row insn.now) at else [])) }
+        then run.named (program_of p.now) (points.file_word (program_of p.now)) (M.Machine.row insn.now) at else [])) }
 {
     if !indirect {
         return Ok(Vec::new(alloc));

@@ -1,9 +1,9 @@
 //! The segment of a named ending.
-ghost use Rattle.std.specs.Prelude.{◌≡◌, ℕ, ◌+◌, ◌≤◌, [], IfOk, IfSome, option_map};
+ghost use Rattle.std.specs.Prelude.{◌≡◌, ◌+◌, ◌≤◌, [], IfOk, IfSome, option_map};
 ghost use Rattle.std.specs.List.Sorted.{IsStrictlyIncreasing};
 ghost use Rattle.bilv_spec.specs.Elf.{loaded, is_kept};
 ghost use Rattle.bilv_spec.specs.EntryFaults.{IsEntryStateFault};
-ghost use Rattle.bilv_spec.specs.Files.{order_of, program_of};
+ghost use Rattle.program_value.specs.Programs.{program_of};
 ghost use Rattle.bilv_spec.specs.Points.{is_known_at};
 ghost use Rattle.machine_spec.specs.StateText.{IsWritten, last_step};
 ghost use Rattle.call_spec.specs.Calls.{plain_answer};
@@ -18,8 +18,6 @@ ghost use Rattle.start_value.specs.Starts.{written_of};
 ghost use Rattle.state_text.specs.Starts.{written_head_of};
 ghost use Rattle.call_text.specs.Texts.{called_ending_of};
 ghost use Rattle.frame_text.specs.Texts.{framed_ending_of};
-ghost use Rattle.notes_value.specs.NoteViews.{notes_of};
-ghost use Rattle.notes_value.specs.Reads.{AreReadable};
 ghost use Rattle.table_run.specs.Endings.{fault_of, IsLinesFault};
 ghost use Rattle.table_run.specs.FrameEnds.{frame_of, start_shown};
 ghost use Rattle.frame_replay.specs.Readings.{IsHeadWritten};
@@ -27,10 +25,9 @@ ghost use Rattle.frame_replay.specs.Readings.{IsHeadWritten};
 use crate::comparing::bare;
 use crate::texts::{compared, false_invariant};
 use call_text::CalledText;
-use elf32_reader::Image;
 use frame_text::FramedEnding;
 use machine_law::Machine;
-use notes_value::Notes;
+use program_value::Program;
 use report_replay::{Replay, false_require, unaligned};
 use state_text::HeadStart;
 use std::alloc::{AllocError, Global};
@@ -74,25 +71,22 @@ fn faulted(alloc: Global, fault: EntryFault) -> Result<Replay, AllocError>
 /// The number of the first invariant of a head that is false in its state, for an entry state. The error is want of memory.
 fn false_at<M: Machine>(
     alloc: Global,
-    image: &Image,
-    notes: &Notes,
+    program: &Program<M>,
     invariants: &[u32],
     entry: &M::State,
     head: Option<&HeadStart>,
 ) -> Result<Option<u32>, AllocError>
-    requires order { order_of image.now ≡ M.machine.endian }
-    requires readable { AreReadable M.machine.has_register (notes_of notes.now) }
     requires rising { IsStrictlyIncreasing invariants.now }
-    requires head { IfSome head (λ h. IsWritten M.form (λ a. is_kept (loaded image.now a)) (written_of h.now.start)) }
-    ensures { (at : ℕ) → IfOk result (λ o.
-        let f = frame_of (program_of M.machine image.now (notes_of notes.now) at) invariants.now in
+    requires head { IfSome head (λ h. IsWritten M.form (λ a. is_kept (loaded program.now.image.now a)) (written_of h.now.start)) }
+    ensures { IfOk result (λ o.
+        let f = frame_of (program_of program.now) invariants.now in
         o ≡ false_at_head f (M.State.view entry.now) (head_of f M.form (option_map (λ h. written_head_of h.now) head.entry))) }
 {
     match head {
         None => Ok(None),
         Some(head) => {
-            let state = head_state::<M>(alloc, image, head)?;
-            match head_ok::<M>(image, notes, invariants, entry, &state) {
+            let state = head_state::<M>(alloc, program.image, head)?;
+            match head_ok::<M>(program, invariants, entry, &state) {
                 Ok(()) => Ok(None),
                 Err(line) => Ok(Some(line)),
             }
@@ -103,40 +97,34 @@ fn false_at<M: Machine>(
 /// The answer to a named ending of the entry's frame with its start and its head state; a block plays no part. The error is want of memory.
 pub(crate) fn run_named<M: Machine>(
     alloc: Global,
-    image: &Image,
-    notes: &Notes,
+    program: &Program<M>,
     invariants: &[u32],
-    entry: u32,
     text: &CalledText,
 ) -> Result<Replay, AllocError>
-    requires order { order_of image.now ≡ M.machine.endian }
-    requires readable { AreReadable M.machine.has_register (notes_of notes.now) }
     requires rising { IsStrictlyIncreasing invariants.now }
-    requires start { IsWritten M.form (is_known_at (program_of M.machine image.now (notes_of notes.now) entry)) (written_of text.now.start) }
-    requires head { IsHeadWritten M.form image.now text.now.head }
+    requires start { IsWritten M.form (is_known_at (program_of program.now)) (written_of text.now.start) }
+    requires head { IsHeadWritten M.form program.now.image.now text.now.head }
     requires frame { frame_name (called_ending_of text.now.named) ≡ EntryFrame }
     requires step { step_of (replays.bare (called_ending_of text.now.named)) ≤ last_step }
     ensures { IfOk result (λ r. plain_answer r.status r.text.items
-        ≡ call_run_answer (frame_of (program_of M.machine image.now (notes_of notes.now) entry) invariants.now) (called_ending_of text.now.named)
-        (start_shown (program_of M.machine image.now (notes_of notes.now) entry) invariants.now M.form (written_of text.now.start)
+        ≡ call_run_answer (frame_of (program_of program.now) invariants.now) (called_ending_of text.now.named)
+        (start_shown (program_of program.now) invariants.now M.form (written_of text.now.start)
         (option_map written_head_of text.now.head)) []) }
 {
-    let state = start_state::<M>(alloc, image, notes, entry, &text.start)?;
-    if let Err(fault) = lines_ok::<M>(image, notes, &state) {
+    let state = start_state::<M>(alloc, program, &text.start)?;
+    if let Err(fault) = lines_ok::<M>(program, &state) {
         return faulted(alloc, fault);
     }
     let head = text.head.as_ref();
-    if let Some(line) = false_at::<M>(alloc, image, notes, invariants, &state, head)? {
+    if let Some(line) = false_at::<M>(alloc, program, invariants, &state, head)? {
         return false_invariant(alloc, line);
     }
     let ending = bare(text.named);
     let limit = step_of(ending) + 1;
     let came = run_frame::<M>(
         alloc,
-        image,
-        notes,
+        program,
         invariants,
-        entry,
         &text.start,
         head,
         bound(ending),

@@ -3,7 +3,6 @@ use Rattle.std.proofs.Common.{◌≡◌, ◌≢◌, refl, sym, ap, subst, ◌∙
 use Rattle.std.specs.Prelude.{All, AllPairs, IfSome, get_or, option_map}
 use Rattle.std.proofs.lemmas.List.{length-map}
 use Rattle.bilv_spec.specs.Points.{is_known_at}
-use Rattle.machine_spec.specs.Machine.{Machine}
 use Rattle.machine_spec.specs.StateText.{Layout, IsWritten}
 use Rattle.call_form.specs.declared.budget.Budget.{Budget}
 use Rattle.frame_spec.specs.FrameFound.{Found, found}
@@ -80,17 +79,17 @@ module _ (made told : List CallState) (is : told ≡ made) where
 
 -- ---- the frame of a rank
 
-module _ (m : Machine) (form : Layout) (x : Framed) (b : Budget) (rank : ℕ) (sh : Shown) (plain : x.invariants.now ≡ []) (some : x.contracts.now ≢ [])
-    (h : CanEnd m form x b rank sh) where
+module _ {M I S : Type 0} {ms : _} {vs : _} (form : Layout) (x : Framed M I S ms vs) (b : Budget) (rank : ℕ) (sh : Shown) (plain : x.invariants.now ≡ []) (some : x.contracts.now ≢ [])
+    (h : CanEnd form x b rank sh) where
   -- without invariants
   abbrev bare : Whole
-  bare = record { program = program_of_framed m x; invariants = []; contracts = contracts_of x }
+  bare = record { program = program_of_framed x; invariants = []; contracts = contracts_of x }
 
   abbrev of_calls : List CallState → reports.Shown
   of_calls calls = record { start = written_of sh.start; head = None; calls = map written_call_of calls }
 
-  same : whole_of_framed m x ≡ bare
-  same = ap (λ (z : List ℕ). record { program = program_of_framed m x; invariants = z; contracts = contracts_of x }) plain
+  same : whole_of_framed x ≡ bare
+  same = ap (λ (z : List ℕ). record { program = program_of_framed x; invariants = z; contracts = contracts_of x }) plain
 
   no_head : (calls : List CallState) → shown_with sh.start sh.head calls ≡ of_calls calls
   no_head calls =
@@ -99,7 +98,7 @@ module _ (m : Machine) (form : Layout) (x : Framed) (b : Budget) (rank : ℕ) (s
   pub shown_bare : IsShownAt bare rank form (of_calls sh.calls.items)
   shown_bare =
       subst (λ (w : Whole). IsShownAt w rank form (of_calls sh.calls.items)) same
-      (subst (λ (z : reports.Shown). IsShownAt (whole_of_framed m x) rank form z) (no_head sh.calls.items) h.shown)
+      (subst (λ (z : reports.Shown). IsShownAt (whole_of_framed x) rank form z) (no_head sh.calls.items) h.shown)
 
   pub start_written : IsWritten form (is_known_at (frame_of bare rank).program) (written_of sh.start)
   start_written = shown_bare.entry
@@ -107,7 +106,7 @@ module _ (m : Machine) (form : Layout) (x : Framed) (b : Budget) (rank : ℕ) (s
   its_listed : AreListed (frame_of bare rank) b.unroll (begun bare rank form (of_calls sh.calls.items)) (map written_call_of sh.calls.items) b.points
   its_listed =
       subst (λ (w : Whole). AreListed (frame_of w rank) b.unroll (begun w rank form (of_calls sh.calls.items)) (map written_call_of sh.calls.items) b.points) same
-      (subst (λ (z : reports.Shown). AreListed (frame_of (whole_of_framed m x) rank) b.unroll (begun (whole_of_framed m x) rank form z)
+      (subst (λ (z : reports.Shown). AreListed (frame_of (whole_of_framed x) rank) b.unroll (begun (whole_of_framed x) rank form z)
       (map written_call_of sh.calls.items) b.points) (no_head sh.calls.items) (h.listed some))
 
   module _ (first : List CallState) (first_is : first ≡ sh.calls.items) where
@@ -129,12 +128,12 @@ module _ (m : Machine) (form : Layout) (x : Framed) (b : Budget) (rank : ℕ) (s
   over : IsOver (run (frame_of bare rank) b.unroll (begun bare rank form (of_calls sh.calls.items)) b.points)
   over =
       subst (λ (w : Whole). IsOver (run (frame_of w rank) b.unroll (begun w rank form (of_calls sh.calls.items)) b.points)) same
-      (subst (λ (z : reports.Shown). IsOver (run (frame_of (whole_of_framed m x) rank) b.unroll (begun (whole_of_framed m x) rank form z) b.points))
+      (subst (λ (z : reports.Shown). IsOver (run (frame_of (whole_of_framed x) rank) b.unroll (begun (whole_of_framed x) rank form z) b.points))
       (no_head sh.calls.items) (h.over (begins sh.head (h.alone some))))
     where
-      begins : (o : Option HeadStart) → o ≡ None → IsHeadFor (frame_of (whole_of_framed m x) rank)
-          (begun (whole_of_framed m x) rank form (shown_with sh.start o sh.calls.items)).state
-          (begun (whole_of_framed m x) rank form (shown_with sh.start o sh.calls.items)).head
+      begins : (o : Option HeadStart) → o ≡ None → IsHeadFor (frame_of (whole_of_framed x) rank)
+          (begun (whole_of_framed x) rank form (shown_with sh.start o sh.calls.items)).state
+          (begun (whole_of_framed x) rank form (shown_with sh.start o sh.calls.items)).head
       begins None e = tt
       begins (Some z) e = absurd (cc)
 
@@ -153,9 +152,9 @@ module _ (m : Machine) (form : Layout) (x : Framed) (b : Budget) (rank : ℕ) (s
     its_end = found (frame_of bare rank) (Some b.unroll) (begun bare rank form (of_calls made)) (b.points - 1)
 
     back : (o : Option Ended) → IsCame bare rank b.unroll b.points form (of_calls sh.calls.items) o →
-        IsCame (whole_of_framed m x) rank b.unroll b.points form (shown_of sh) o
+        IsCame (whole_of_framed x) rank b.unroll b.points form (shown_of sh) o
     back o came =
-        subst (λ (z : reports.Shown). IsCame (whole_of_framed m x) rank b.unroll b.points form z o) (sym (no_head sh.calls.items))
+        subst (λ (z : reports.Shown). IsCame (whole_of_framed x) rank b.unroll b.points form z o) (sym (no_head sh.calls.items))
         (subst (λ (w : Whole). IsCame w rank b.unroll b.points form (of_calls sh.calls.items) o) (sym same) came)
 
     its_alike : AreAlike (run (frame_of bare rank) b.unroll (begun bare rank form (of_calls sh.calls.items)) b.points)
@@ -181,7 +180,7 @@ module _ (m : Machine) (form : Layout) (x : Framed) (b : Budget) (rank : ℕ) (s
         (found (frame_of bare rank) (Some b.unroll) (begun bare rank form (of_calls l)) (b.points - 1))) told_is finds
 
     pub came_otherwise : ((z : Found) → IsFoundAs ending z → ((step : ℕ) → cause_of ending ≢ Some (WrongAt step)) → n ≡ None → named_in z ≡ None) → n ≡ None →
-        IsCame (whole_of_framed m x) rank b.unroll b.points form (shown_of sh) None
+        IsCame (whole_of_framed x) rank b.unroll b.points form (shown_of sh) None
     came_otherwise none is =
         back None (otherwise bare rank b.unroll b.points b.in_range.points.0 form sh.start None sh.calls.items made shown_bare over its_alike its_made ending its_cause
         (λ right. none its_end its_found right is))
@@ -203,7 +202,7 @@ module _ (m : Machine) (form : Layout) (x : Framed) (b : Budget) (rank : ℕ) (s
     pub came_named : ((z : Found) → IsFoundAs ending z → IfSome n (λ y. named_in z ≡ Some (named_of y))) → IfSome n (λ y. cause_of ending ≡ None) →
         (called : Bool) → (cause_of ending ≡ None → called ≡ has_called (frame_of bare rank) b.unroll (begun bare rank form (of_calls told)) b.points) →
         (v : declared.Named) → n ≡ Some v → (e : Ended) → shown_of e.shown ≡ shown_with sh.start sh.head made → e.called ≡ called → e.ending ≡ v →
-        IsCame (whole_of_framed m x) rank b.unroll b.points form (shown_of sh) (Some e)
+        IsCame (whole_of_framed x) rank b.unroll b.points form (shown_of sh) (Some e)
     came_named said right called was v is_v e is c v_is =
         back (Some e) (ends_named bare rank b.unroll b.points b.in_range.points.0 form sh.start None sh.calls.items made shown_bare over its_alike its_made
         (all_to (IsWrittenCall bare form) made written) shown_made called v tt (some_named v is_v (said its_end its_found))
@@ -213,9 +212,9 @@ module _ (m : Machine) (form : Layout) (x : Framed) (b : Budget) (rank : ℕ) (s
 
 -- ---- where there are no contracts
 
-module _ (m : Machine) (x : Framed) (none : x.contracts.now ≡ []) (rank : ℕ) (low : rank ≤ length x.contracts.now) where
+module _ {M I S : Type 0} {ms : _} {vs : _} (x : Framed M I S ms vs) (none : x.contracts.now ≡ []) (rank : ℕ) (low : rank ≤ length x.contracts.now) where
   abbrev whole_without : List Contract → Whole
-  whole_without l = record { program = program_of_framed m x; invariants = x.invariants.now; contracts = l }
+  whole_without l = record { program = program_of_framed x; invariants = x.invariants.now; contracts = l }
 
   no_contracts : contracts_of x ≡ []
   no_contracts = ap (map contract_of) none
@@ -224,13 +223,13 @@ module _ (m : Machine) (x : Framed) (none : x.contracts.now ≡ []) (rank : ℕ)
   first_rank = let e = ap length none in omega arith
 
   pub came_plain : (k points : ℕ) (form : Layout) (s : reports.Shown) (o : Option Ended) →
-      IsCame (whole_of (program_of_framed m x) x.invariants.now) 0 k points form s o → IsCame (whole_of_framed m x) rank k points form s o
+      IsCame (whole_of (program_of_framed x) x.invariants.now) 0 k points form s o → IsCame (whole_of_framed x) rank k points form s o
   came_plain k points form s o came =
-      subst (λ (r : ℕ). IsCame (whole_of_framed m x) r k points form s o) (sym first_rank)
+      subst (λ (r : ℕ). IsCame (whole_of_framed x) r k points form s o) (sym first_rank)
       (subst (λ (l : List Contract). IsCame (whole_without l) 0 k points form s o) (sym no_contracts) came)
 
-  pub shown_plain : (form : Layout) (s : reports.Shown) → IsShownAt (whole_of_framed m x) rank form s →
-      IsShownAt (whole_of (program_of_framed m x) x.invariants.now) 0 form s
+  pub shown_plain : (form : Layout) (s : reports.Shown) → IsShownAt (whole_of_framed x) rank form s →
+      IsShownAt (whole_of (program_of_framed x) x.invariants.now) 0 form s
   shown_plain form s h =
       subst (λ (l : List Contract). IsShownAt (whole_without l) 0 form s) no_contracts
-      (subst (λ (r : ℕ). IsShownAt (whole_of_framed m x) r form s) first_rank h)
+      (subst (λ (r : ℕ). IsShownAt (whole_of_framed x) r form s) first_rank h)

@@ -5,7 +5,6 @@ use Rattle.std.proofs.lemmas.List.{length-map}
 use Rattle.call_spec.specs.Calls.{Budget}
 use Rattle.call_form.specs.Views.{budget_of}
 use Rattle.call_form.specs.declared.budget.Budget as budgets
-use Rattle.machine_spec.specs.Machine.{Machine}
 use Rattle.machine_spec.specs.StateText.{Layout}
 use Rattle.frame_spec.specs.Frames.{Contract}
 use Rattle.frame_spec.specs.FramePoints.{IsPrice, Point}
@@ -94,14 +93,14 @@ module _ (w : Whole) (layout : Layout) (b : Budget) (x : Measured) (is : IsMeasu
   all_within cheap = within w b x.left.price few whole cheap
 
 -- the last frame is the function's own
-pub measured_last : (m : Machine) (x : Framed) (layout : Layout) (b : Budget) (y : Measured) →
-    IsMeasuredTo (whole_of_framed m x) (length x.contracts.now) layout b y → IsMeasuredTo (whole_of_framed m x) (last_rank (whole_of_framed m x)) layout b y
-measured_last m x layout b y h =
-    subst (λ (n : ℕ). IsMeasuredTo (whole_of_framed m x) n layout b y) (sym (length-map x.contracts.now contract_of)) h
+pub measured_last : {M I S : Type 0} {ms : _} {vs : _} (x : Framed M I S ms vs) (layout : Layout) (b : Budget) (y : Measured) →
+    IsMeasuredTo (whole_of_framed x) (length x.contracts.now) layout b y → IsMeasuredTo (whole_of_framed x) (last_rank (whole_of_framed x)) layout b y
+measured_last x layout b y h =
+    subst (λ (n : ℕ). IsMeasuredTo (whole_of_framed x) n layout b y) (sym (length-map x.contracts.now contract_of)) h
 
 -- a frame of a whole that is within the budgets has not too many points
-pub none_too_many : (m : Machine) (x : Framed) (b : budgets.Budget) (rank : ℕ) → rank ≤ length x.contracts.now →
-    IsWithin (whole_of_framed m x) (budget_of b) → (e : PointsFault) → HasTooMany (frame_at m x rank) b.unroll b.points e → (count : ℕ) → e ≡ TooMany count → ⊥
-none_too_many m x b rank low is e h count same =
-    let more = subst (λ (z : PointsFault). HasTooMany (frame_at m x rank) b.unroll b.points z) same h in
-    wholes_are_few (whole_of_framed m x) b.unroll b.points rank (let l = length-map x.contracts.now contract_of in omega arith) is.points more.0
+pub none_too_many : {M I S : Type 0} {ms : _} {vs : _} (x : Framed M I S ms vs) (b : budgets.Budget) (rank : ℕ) → rank ≤ length x.contracts.now →
+    IsWithin (whole_of_framed x) (budget_of b) → (e : PointsFault) → HasTooMany (frame_at x rank) b.unroll b.points e → (count : ℕ) → e ≡ TooMany count → ⊥
+none_too_many x b rank low is e h count same =
+    let more = subst (λ (z : PointsFault). HasTooMany (frame_at x rank) b.unroll b.points z) same h in
+    wholes_are_few (whole_of_framed x) b.unroll b.points rank (let l = length-map x.contracts.now contract_of in omega arith) is.points more.0

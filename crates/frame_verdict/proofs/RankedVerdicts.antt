@@ -209,17 +209,17 @@ module _ (w : Whole) (rank : ℕ) (layout : Layout) (b : Budget) (is_last : rank
 -- ---- the contracts in turn
 
 -- there is a contract of a rank, so no invariants
-pub plain_at : (x : Framed) → (x.contracts.now ≢ [] → x.invariants.now ≡ []) → (rank : ℕ) → rank < length x.contracts.now → x.invariants.now ≡ []
+pub plain_at : {M I S : Type 0} {ms : _} {vs : _} (x : Framed M I S ms vs) → (x.contracts.now ≢ [] → x.invariants.now ≡ []) → (rank : ℕ) → rank < length x.contracts.now → x.invariants.now ≡ []
 plain_at x alone rank low = alone (λ e. (let n = ap length e in absurd (omega arith)))
 
-pub low_at : (x : Framed) (rank : ℕ) → rank < length x.contracts.now → rank < length (contracts_of x)
+pub low_at : {M I S : Type 0} {ms : _} {vs : _} (x : Framed M I S ms vs) (rank : ℕ) → rank < length x.contracts.now → rank < length (contracts_of x)
 low_at x rank low = let e = length-map x.contracts.now contract_of in omega arith
 
-pub last_at : (x : Framed) → length x.contracts.now ≡ length (contracts_of x)
+pub last_at : {M I S : Type 0} {ms : _} {vs : _} (x : Framed M I S ms vs) → length x.contracts.now ≡ length (contracts_of x)
 last_at x = sym (length-map x.contracts.now contract_of)
 
 -- there are contracts where those of the whole are some
-pub alone_at : (x : Framed) → (x.contracts.now ≢ [] → x.invariants.now ≡ []) → contracts_of x ≢ [] → x.invariants.now ≡ []
+pub alone_at : {M I S : Type 0} {ms : _} {vs : _} (x : Framed M I S ms vs) → (x.contracts.now ≢ [] → x.invariants.now ≡ []) → contracts_of x ≢ [] → x.invariants.now ≡ []
 alone_at x alone some = alone (λ e. some (ap (map contract_of) e))
 
 module _ (w : Whole) (layout : Layout) (b : Budget) where
@@ -251,5 +251,5 @@ module _ (w : Whole) (layout : Layout) (b : Budget) where
       ArePassedTo w layout b.unroll rank v.items
   all_pass v y h e rank last = subst (λ (r : ℕ). ArePassedTo w layout b.unroll r v.items) (sym last) (subst (ArePassed w layout b) e h)
 
-pub at_most : (x : Framed) (rank : ℕ) → rank ≤ length x.contracts.now → rank ≤ length (contracts_of x)
+pub at_most : {M I S : Type 0} {ms : _} {vs : _} (x : Framed M I S ms vs) (rank : ℕ) → rank ≤ length x.contracts.now → rank ≤ length (contracts_of x)
 at_most x rank low = let e = length-map x.contracts.now contract_of in omega arith

@@ -3,7 +3,6 @@ use Rattle.std.proofs.Common.{◌≡◌, ◌≢◌, ◌≤◌, ◌∙◌, arith,
 use Rattle.std.specs.Prelude.{◌==◌}
 use Rattle.std.proofs.lemmas.Bool.Decides.{nat_tests}
 use Rattle.std.proofs.lemmas.List.{length-map}
-use Rattle.machine_spec.specs.Machine.{Machine}
 use Rattle.machine_spec.specs.StateText.{Layout}
 use Rattle.call_form.specs.Views.{budget_of}
 use Rattle.call_form.specs.declared.budget.Budget.{Budget}
@@ -33,20 +32,20 @@ exceeded_verdict w layout b (Points count) h = h
 exceeded_verdict w layout b (Size price) h = h
 
 -- the budgets suffice, and the function's own frame is unrolled
-module _ (m : Machine) (form : Layout) (x : Framed) (b : Budget) (u : Unrolled) (y : Weighed)
-    (h : IsWeighed (whole_of_framed m x) form (budget_of b) y) (is : y ≡ Within u) where
-  weighed : IsWeighed (whole_of_framed m x) form (budget_of b) (Within u)
-  weighed = subst (IsWeighed (whole_of_framed m x) form (budget_of b)) is h
+module _ {M I S : Type 0} {ms : _} {vs : _} (form : Layout) (x : Framed M I S ms vs) (b : Budget) (u : Unrolled) (y : Weighed)
+    (h : IsWeighed (whole_of_framed x) form (budget_of b) y) (is : y ≡ Within u) where
+  weighed : IsWeighed (whole_of_framed x) form (budget_of b) (Within u)
+  weighed = subst (IsWeighed (whole_of_framed x) form (budget_of b)) is h
 
-  pub all_within : IsWithin (whole_of_framed m x) (budget_of b)
+  pub all_within : IsWithin (whole_of_framed x) (budget_of b)
   all_within = weighed.0
 
-  pub own_unrolled : (rank : ℕ) → rank ≡ length x.contracts.now → IsFrameUnrolled (frame_at m x rank) (contracts_of x) b.unroll form u
+  pub own_unrolled : (rank : ℕ) → rank ≡ length x.contracts.now → IsFrameUnrolled (frame_at x rank) (contracts_of x) b.unroll form u
   own_unrolled rank last =
-      let e : last_rank (whole_of_framed m x) ≡ rank = length-map x.contracts.now contract_of ∙ sym last in
-      subst (λ (r : ℕ). IsFrameUnrolled (frame_at m x r) (contracts_of x) b.unroll form u) e weighed.1
+      let e : last_rank (whole_of_framed x) ≡ rank = length-map x.contracts.now contract_of ∙ sym last in
+      subst (λ (r : ℕ). IsFrameUnrolled (frame_at x r) (contracts_of x) b.unroll form u) e weighed.1
 
-  pub own_ready : CanRun m x → IsReady m form x b (length x.contracts.now) u
+  pub own_ready : CanRun x → IsReady form x b (length x.contracts.now) u
   own_ready runs = record {
     runs = runs;
     ranked = omega arith;
@@ -55,7 +54,7 @@ module _ (m : Machine) (form : Layout) (x : Framed) (b : Budget) (u : Unrolled) 
   }
 
 -- a rank that is no contract's is the function's own
-pub last_of : (x : Framed) (rank : ℕ) → rank ≤ length x.contracts.now → length x.contracts.now ≤ rank → rank ≡ length x.contracts.now
+pub last_of : {M I S : Type 0} {ms : _} {vs : _} (x : Framed M I S ms vs) (rank : ℕ) → rank ≤ length x.contracts.now → length x.contracts.now ≤ rank → rank ≡ length x.contracts.now
 last_of x rank low high = omega arith
 
 -- a list whose length is tested

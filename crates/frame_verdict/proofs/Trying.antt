@@ -6,7 +6,6 @@ use Rattle.word_spec.specs.State.{State}
 use Rattle.bilv_spec.specs.Points.{is_known_at, is_kept_at}
 use Rattle.bilv_spec.specs.Run.{Place}
 use Rattle.bilv_spec.specs.Verdict.{IsEntryState}
-use Rattle.machine_spec.specs.Machine.{Machine}
 use Rattle.machine_spec.specs.StateText.{Layout, IsWritten}
 use Rattle.frame_spec.specs.Frames.{Contract, Frame, IsContent, is_head}
 use Rattle.frame_spec.specs.FrameFound.{found}
@@ -129,14 +128,14 @@ state_same : (w : Whole) (f : Frame) (k : ℕ) (layout : Layout) (parts : Writte
     (at w f k layout parts xs cs a).state ≡ (at w f k layout parts ys ds b).state
 state_same w f k layout parts a b xs ys cs ds = state_at w f k layout parts xs cs a ∙ sym (state_at w f k layout parts ys ds b)
 
-module _ (m : Machine) (form : Layout) (x : Framed) (b : Budget) (rank : ℕ) (u : Unrolled) (ready : IsReady m form x b rank u) (question : Question)
-    (s : Segments) (segments : AreSegments (frame_at m x rank) b.unroll form question u s) (i : ℕ) (inside : i < length u.roots.items)
+module _ {M I S : Type 0} {ms : _} {vs : _} (form : Layout) (x : Framed M I S ms vs) (b : Budget) (rank : ℕ) (u : Unrolled) (ready : IsReady form x b rank u) (question : Question)
+    (s : Segments) (segments : AreSegments (frame_at x rank) b.unroll form question u s) (i : ℕ) (inside : i < length u.roots.items)
     (wanted : wants_anchor question (anchor_at u i) ≡ true) where
   abbrev w : Whole
-  w = whole_of_framed m x
+  w = whole_of_framed x
 
   abbrev f : Frame
-  f = frame_at m x rank
+  f = frame_at x rank
 
   abbrev k : ℕ
   k = b.unroll
@@ -192,7 +191,7 @@ module _ (m : Machine) (form : Layout) (x : Framed) (b : Budget) (rank : ℕ) (u
   few : ¬ frames.HasMore f k b.points
   few = wholes_are_few w k b.points rank (subst (λ (n : ℕ). rank ≤ n) (sym (length_map x)) ready.ranked) ready.within.points
     where
-      length_map : (x : Framed) → length (contracts_of x) ≡ length x.contracts.now
+      length_map : {M I S : Type 0} {ms : _} {vs : _} (x : Framed M I S ms vs) → length (contracts_of x) ≡ length x.contracts.now
       length_map x = length-map x.contracts.now contract_of
 
   -- what contract steps are given, in a start that can be written
@@ -226,7 +225,7 @@ module _ (m : Machine) (form : Layout) (x : Framed) (b : Budget) (rank : ℕ) (u
 
   -- what is shown of the root
   module _ (sh : Shown) (same : shown_of sh ≡ shown_at u s i) where
-    heads_by : (o : Option HeadStart) → option_map written_head_of o ≡ (shown_at u s i).head → IsHeadWritten (program_of_framed m x) x.invariants.now form o
+    heads_by : (o : Option HeadStart) → option_map written_head_of o ≡ (shown_at u s i).head → IsHeadWritten (program_of_framed x) x.invariants.now form o
     heads_by None e = tt
     heads_by (Some h) e = (
       subst (λ (kept : ℕ → Bool). IsWritten form kept (written_of h.start)) (kept_same w rank) (shown.head (written_head_of h) (sym e)),
@@ -234,7 +233,7 @@ module _ (m : Machine) (form : Layout) (x : Framed) (b : Budget) (rank : ℕ) (u
           ∙ head_there w f k form (written_parts s.parts) choices calls (anchor_at u i) anchor (written_head_of h) (sym e),
     )
 
-    pub can_end : CanEnd m form x b rank sh
+    pub can_end : CanEnd form x b rank sh
     can_end = record {
       shown = subst (λ (z : reports.Shown). IsShown w f form z) (sym same) shown;
       head = heads_by sh.head (ap (λ (z : reports.Shown). z.head) same);

@@ -1,10 +1,9 @@
--- The program, the whole and the frames that a function of two files is, and what its verdict needs.
+-- The program, the whole and the frames of a program with invariants or contracts, and what its verdict needs.
 use Rattle.std.specs.Prelude.{ℕ, ◌≡◌, ◌≢◌, ◌≤◌, ◌<◌, ◌^◌, true, All, List, [], Option, Some, None, length, map, nat_eq, slice_get, sum_by}
 use Rattle.std.specs.List.{list_any}
 use Rattle.std.specs.List.Sorted.{IsStrictlyIncreasing}
 use Rattle.machine_spec.specs.Machine.{Machine, IsAtPlace}
 use Rattle.machine_spec.specs.StateText.{Layout}
-use Rattle.bilv_spec.specs.Files.{order_of, program_of}
 use Rattle.bilv_spec.specs.Notes.{Notes}
 use Rattle.bilv_spec.specs.Run.{Program}
 use Rattle.call_form.specs.Views.{budget_of}
@@ -15,39 +14,40 @@ use Rattle.frame_spec.specs.FrameVerdict as frames
 use Rattle.frame_spec.specs.FrameVerdict.{Whole}
 use Rattle.notes_value.specs.FrameViews.{contract_of}
 use Rattle.notes_value.specs.NoteViews.{notes_of}
-use Rattle.notes_value.specs.Reads.{AreOver, AreReadable, IsOver, IsReadableContract}
+use Rattle.notes_value.specs.Reads.{IsOver}
+use Rattle.program_value.specs.Programs.{program_of}
 use Rattle.question_form.specs.declared.unrolled.Unrolled.{Unrolled}
 use Rattle.table_run.specs.FrameEnds.{frame_of}
 use Rattle.frame_verdict.specs.FrameMeasures.{IsFrameUnrolled}
 use Rattle.frame_verdict.specs.declared.framed.Framed.{Framed}
 
 -- the program, over a machine
-abbrev pub program_of_framed : Machine → Framed → Program
-program_of_framed m x = program_of m x.image.now (notes_of x.notes.now) x.entry
+abbrev pub program_of_framed : {M I S : _} {d : _} {v : _} → Framed M I S d v → Program
+program_of_framed x = program_of x.program
 
 -- its contracts, in the order of their ranks
-abbrev pub contracts_of : Framed → List Contract
+abbrev pub contracts_of : {M I S : _} {d : _} {v : _} → Framed M I S d v → List Contract
 contracts_of x = map contract_of x.contracts.now
 
 -- all that it is
-abbrev pub whole_of_framed : Machine → Framed → Whole
-whole_of_framed m x = record { program = program_of_framed m x; invariants = x.invariants.now; contracts = contracts_of x }
+abbrev pub whole_of_framed : {M I S : _} {d : _} {v : _} → Framed M I S d v → Whole
+whole_of_framed x = record { program = program_of_framed x; invariants = x.invariants.now; contracts = contracts_of x }
 
 -- its frame of a rank
-abbrev pub frame_at : Machine → Framed → (rank : ℕ) → Frame
-frame_at m x rank = frames.frame_of (whole_of_framed m x) rank
+abbrev pub frame_at : {M I S : _} {d : _} {v : _} → Framed M I S d v → (rank : ℕ) → Frame
+frame_at x rank = frames.frame_of (whole_of_framed x) rank
 
 -- its frame where it has no contracts, whose runs are cut at its heads
-abbrev pub frame_of_framed : Machine → Framed → Frame
-frame_of_framed m x = frame_of (program_of_framed m x) x.invariants.now
+abbrev pub frame_of_framed : {M I S : _} {d : _} {v : _} → Framed M I S d v → Frame
+frame_of_framed x = frame_of (program_of_framed x) x.invariants.now
 
 -- the notes of a frame: those of the file, or for a contract's frame what the contract needs in the place of what they require
 abbrev pub notes_by : Notes → Option Contract → Notes
 notes_by n None = n
 notes_by n (Some x) = record n { requires = x.needs; ensures = []; fixed = [] }
 
-abbrev pub IsNotesAt : Framed → (rank : ℕ) → Notes → Type 0
-IsNotesAt x rank n = n ≡ notes_by (notes_of x.notes.now) (slice_get (contracts_of x) rank)
+abbrev pub IsNotesAt : {M I S : _} {d : _} {v : _} → Framed M I S d v → (rank : ℕ) → Notes → Type 0
+IsNotesAt x rank n = n ≡ notes_by (notes_of x.program.notes.now) (slice_get (contracts_of x) rank)
 
 -- The lines of a contract are over the words of a machine, each that writes does so to one byte at least, all of them together to fewer than 2 ^ 64; it changes
 -- registers and flags of the machine alone; and a row can stand at its address.
@@ -60,24 +60,20 @@ pub record IsCallable (m : Machine) (c : Contract) : Type 0 where
   pub flags : (f : ℕ) → list_any (nat_eq f) c.flags ≡ true → m.has_flag f ≡ true
   pub place : IsAtPlace m.narrow c.at
 
--- What unrolling needs of it: the machine's byte order, lines over the words of the machine, and addresses at which a row can stand.
-pub record CanUnroll (m : Machine) (x : Framed) : Type 0 where
-  pub order : order_of x.image.now ≡ m.endian
-  pub over : AreOver m.has_register m.has_flag (notes_of x.notes.now)
-  pub place : IsAtPlace m.narrow x.entry
-  pub callable : All (λ c. IsCallable m (contract_of c)) x.contracts.now
+-- What unrolling needs of it: contracts over the words of the machine, and addresses at which a row can stand.
+pub record CanUnroll {M I S : _} {d : _} {v : _} (x : Framed M I S d v) : Type 0 where
+  pub place : IsAtPlace d.machine.narrow x.program.entry
+  pub callable : All (λ c. IsCallable d.machine (contract_of c)) x.contracts.now
 
--- What runs need of it besides: lines that can be read, the invariants' numbers in rising order, and no invariants beside contracts.
-pub record CanRun (m : Machine) (x : Framed) : Type 0 where
-  pub unroll : CanUnroll m x
-  pub readable : AreReadable m.has_register (notes_of x.notes.now)
-  pub read : All (λ c. IsReadableContract m.has_register (contract_of c)) x.contracts.now
+-- What runs need of it besides: the invariants' numbers in rising order, and no invariants beside contracts.
+pub record CanRun {M I S : _} {d : _} {v : _} (x : Framed M I S d v) : Type 0 where
+  pub unroll : CanUnroll x
   pub rising : IsStrictlyIncreasing x.invariants.now
   pub alone : x.contracts.now ≢ [] → x.invariants.now ≡ []
 
 -- What the verdict of the frame of a rank needs besides: the budgets; and its unrolled frame, over the form of states.
-pub record IsReady (m : Machine) (form : Layout) (x : Framed) (b : Budget) (rank : ℕ) (u : Unrolled) : Type 0 where
-  pub runs : CanRun m x
+pub record IsReady {M I S : _} {d : _} {v : _} (form : Layout) (x : Framed M I S d v) (b : Budget) (rank : ℕ) (u : Unrolled) : Type 0 where
+  pub runs : CanRun x
   pub ranked : rank ≤ length x.contracts.now
-  pub within : IsWithin (whole_of_framed m x) (budget_of b)
-  pub unrolled : IsFrameUnrolled (frame_at m x rank) (contracts_of x) b.unroll form u
+  pub within : IsWithin (whole_of_framed x) (budget_of b)
+  pub unrolled : IsFrameUnrolled (frame_at x rank) (contracts_of x) b.unroll form u

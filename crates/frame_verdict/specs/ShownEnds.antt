@@ -3,7 +3,6 @@ use Rattle.std.specs.Prelude.{ℕ, ◌≡◌, ◌≢◌, ◌-◌, Bool, true, fa
 use Rattle.word_spec.specs.State.{State}
 use Rattle.bilv_spec.specs.Run.{Program, Place}
 use Rattle.bilv_spec.specs.Points.{is_kept_at}
-use Rattle.machine_spec.specs.Machine.{Machine}
 use Rattle.machine_spec.specs.StateText.{Layout, IsWritten}
 use Rattle.frame_spec.specs.Frames.{Frame, is_head}
 use Rattle.frame_spec.specs.FrameFound.{Found, FoundExit, FoundEvent, FoundTurn, FoundCut, FoundBreak, FoundLeft, found}
@@ -94,15 +93,15 @@ IsCame w rank k points layout s (Some e) =
 
 -- A segment that is shown of the frame of a rank: it can be written; with contracts it begins at the entry, and each contract step that it makes is listed, and
 -- without them none is; and it has ended after as many steps as there may be points.
-pub record CanEnd (m : Machine) (form : Layout) (x : Framed) (b : Budget) (rank : ℕ) (s : Shown) : Type 0 where
-  pub shown : IsShownAt (whole_of_framed m x) rank form (shown_of s)
-  pub head : IsHeadWritten (program_of_framed m x) x.invariants.now form s.head
+pub record CanEnd {M I S : _} {d : _} {v : _} (form : Layout) (x : Framed M I S d v) (b : Budget) (rank : ℕ) (s : Shown) : Type 0 where
+  pub shown : IsShownAt (whole_of_framed x) rank form (shown_of s)
+  pub head : IsHeadWritten (program_of_framed x) x.invariants.now form s.head
   pub alone : x.contracts.now ≢ [] → s.head ≡ None
   pub none : x.contracts.now ≡ [] → s.calls.items ≡ []
-  pub listed : x.contracts.now ≢ [] → AreListed (frame_at m x rank) b.unroll (begun (whole_of_framed m x) rank form (shown_of s))
+  pub listed : x.contracts.now ≢ [] → AreListed (frame_at x rank) b.unroll (begun (whole_of_framed x) rank form (shown_of s))
       (map written_call_of s.calls.items) b.points
-  pub over : IsHeadFor (frame_at m x rank) (begun (whole_of_framed m x) rank form (shown_of s)).state (begun (whole_of_framed m x) rank form (shown_of s)).head →
-      IsOver (run (frame_at m x rank) b.unroll (begun (whole_of_framed m x) rank form (shown_of s)) b.points)
+  pub over : IsHeadFor (frame_at x rank) (begun (whole_of_framed x) rank form (shown_of s)).state (begun (whole_of_framed x) rank form (shown_of s)).head →
+      IsOver (run (frame_at x rank) b.unroll (begun (whole_of_framed x) rank form (shown_of s)) b.points)
 
 -- a question asks for segments of this anchor
 abbrev pub wants_anchor : Question → Anchor → Bool

@@ -1,9 +1,8 @@
-//! The questions of a frame of a function of two files whose notes may have invariants or contracts, certified one by one.
-ghost use Rattle.std.specs.Prelude.{◌≡◌, ◌≤◌, ◌<◌, ℕ, List, All, IfOk, length, map};
-ghost use Rattle.bilv_spec.specs.Files.{order_of, program_of};
+//! The questions of a frame of a program whose notes may have invariants or contracts, certified one by one.
+ghost use Rattle.std.specs.Prelude.{◌≤◌, ◌<◌, ℕ, All, IfOk, length, map};
+ghost use Rattle.program_value.specs.Programs.{program_of};
 ghost use Rattle.call_form.specs.Views.{budget_of};
 ghost use Rattle.call_spec.specs.Calls as answers;
-ghost use Rattle.frame_spec.specs.Frames.{Contract as Meant};
 ghost use Rattle.frame_spec.specs.FrameQuestions.{Question};
 ghost use Rattle.frame_spec.specs.FrameReports.{IsWithin};
 ghost use Rattle.frame_spec.specs.FrameVerdict.{Whole, frame_of};
@@ -11,7 +10,6 @@ ghost use Rattle.machine_spec.specs.Machine.{IsAtPlace};
 ghost use Rattle.machine_spec.specs.StateText.{Layout};
 ghost use Rattle.notes_value.specs.FrameViews.{contract_of};
 ghost use Rattle.notes_value.specs.NoteViews.{notes_of};
-ghost use Rattle.notes_value.specs.Reads.{AreOver};
 ghost use Rattle.question_form.specs.Asked.{frame_question};
 ghost use Rattle.question_form.specs.declared.unrolled.Unrolled.{Unrolled as UnrolledFrame};
 ghost use Rattle.frame_rounds.specs.FrameGrounds.{AnswersFrame, IsFrameGround};
@@ -23,11 +21,11 @@ use crate::framed::Framed;
 use crate::measuring::{Weighed, measure, unroll_within};
 use crate::ranks::notes_of_rank;
 use call_form::Budget;
-use elf32_reader::Image;
 use frame_rounds::{FrameAnswered, decide_frame};
 use machine_law::Machine;
 use notes_value::{Contract, Notes};
 use passify::passive_of_frame;
+use program_value::Program;
 use question_form::{Asked, Unrolled};
 use std::alloc::{AllocError, Global};
 use verdict::Certified;
@@ -66,17 +64,17 @@ fn certify_unrolled(
 /// memory.
 fn certify_by_notes<'a, M: Machine>(
     alloc: Global,
-    framed: &Framed<'a>,
+    framed: &Framed<'a, M>,
     notes: &'a Notes,
     rank: usize,
     budget: &Budget,
     question: Asked,
 ) -> Result<Certified, AllocError>
-    requires runs { CanUnroll M.machine framed.now }
+    requires runs { CanUnroll framed.now }
     requires rank { rank < length framed.now.contracts.now }
     requires notes { IsNotesAt framed.now rank (notes_of notes.now) }
-    requires within { IsWithin (whole_of_framed M.machine framed.now) (budget_of budget.now) }
-    ensures { IfOk result (IsFrameCertificate (whole_of_framed M.machine framed.now) rank (budget_of budget.now) (frame_question question)) }
+    requires within { IsWithin (whole_of_framed framed.now) (budget_of budget.now) }
+    ensures { IfOk result (IsFrameCertificate (whole_of_framed framed.now) rank (budget_of budget.now) (frame_question question)) }
 {
     let unrolled = unroll_within::<M>(alloc, framed, notes, rank, budget)?;
     let certified = certify_unrolled(alloc, budget, question, &unrolled)?;
@@ -86,15 +84,15 @@ fn certify_by_notes<'a, M: Machine>(
 /// What a question of the frame of the contract of a rank comes to, where all frames are within the budgets. The error is want of memory.
 fn certify_contract<M: Machine>(
     alloc: Global,
-    framed: &Framed,
+    framed: &Framed<M>,
     rank: usize,
     budget: &Budget,
     question: Asked,
 ) -> Result<Certified, AllocError>
-    requires runs { CanUnroll M.machine framed.now }
+    requires runs { CanUnroll framed.now }
     requires rank { rank < length framed.now.contracts.now }
-    requires within { IsWithin (whole_of_framed M.machine framed.now) (budget_of budget.now) }
-    ensures { IfOk result (IsFrameCertificate (whole_of_framed M.machine framed.now) rank (budget_of budget.now) (frame_question question)) }
+    requires within { IsWithin (whole_of_framed framed.now) (budget_of budget.now) }
+    ensures { IfOk result (IsFrameCertificate (whole_of_framed framed.now) rank (budget_of budget.now) (frame_question question)) }
 {
     let notes = notes_of_rank(alloc, framed, rank)?;
     let framed = *framed;
@@ -102,8 +100,7 @@ fn certify_contract<M: Machine>(
     Ok(certified)
 }
 
-/// What a question of a frame of the function at an address of an image comes to, at which a row can stand, by its notes and within the budgets, whether it is due
-/// or not. `invariants` are the rising numbers of those assert lines of the notes that are invariants, `contracts` those of the notes in the order of their ranks;
+/// What a question of a frame of a program comes to, at whose function's address a row can stand, within the budgets, whether it is due or not. `invariants` are the rising numbers of those assert lines of its notes that are invariants, `contracts` those of the notes in the order of their ranks;
 /// the frame is that of the contract of a rank, or with as many as there are contracts for its rank the function's own. The budgets are over all frames. Where
 /// there are no heads, the question about head states is true of nothing.
 ///
@@ -112,32 +109,26 @@ fn certify_contract<M: Machine>(
 /// Want of memory; a price of 2^128 - 1 or more counts as that.
 pub fn certify_frame<'a, M: Machine>(
     alloc: Global,
-    image: &'a Image<'a>,
-    notes: &'a Notes,
+    program: &Program<'a, M>,
     invariants: &'a [u32],
     contracts: &'a [Contract],
-    entry: u32,
     rank: usize,
     budget: &Budget,
     question: Asked,
 ) -> Result<Certified, AllocError>
-    requires order { order_of image.now ≡ M.machine.endian }
-    requires over { AreOver M.machine.has_register M.machine.has_flag (notes_of notes.now) }
-    requires place { IsAtPlace M.machine.narrow entry }
+    requires place { IsAtPlace M.machine.narrow program.now.entry }
     requires callable { All (λ x. IsCallable M.machine (contract_of x)) contracts.now }
     requires rank { rank ≤ length contracts.now }
     ensures { IfOk result (IsFrameCertificate (record {
-      program = program_of M.machine image.now (notes_of notes.now) entry;
+      program = program_of program.now;
       invariants = invariants.now;
       contracts = map contract_of contracts.now;
     }) rank (budget_of budget.now) (frame_question question)) }
 {
     let framed = Framed {
-        image,
-        notes,
+        program: *program,
         invariants,
         contracts,
-        entry,
     };
     match measure::<M>(alloc, &framed, budget)? {
         Weighed::Exceeded(past) => Ok(Certified::Exceeded(past)),

@@ -1,14 +1,12 @@
-//! Functions of two files whose notes have invariants or contracts.
-use elf32_reader::Image;
-use notes_value::{Contract, Notes};
+//! Programs whose notes have invariants or contracts.
+use machine_law::Machine;
+use notes_value::Contract;
+use program_value::Program;
 
-/// A function of two files: the image, the notes, the rising numbers of those assert lines of theirs that are invariants, the contracts in the order of their
-/// ranks, and the address of the function.
-#[derive(Clone, Copy)]
-pub struct Framed<'a> {
-    pub image: &'a Image<'a>,
-    pub notes: &'a Notes,
+/// A program, the rising numbers of those assert lines of its notes that are invariants, and their contracts in the order of their ranks.
+#[derive_where(Clone, Copy)]
+pub struct Framed<'a, M: Machine> {
+    pub program: Program<'a, M>,
     pub invariants: &'a [u32],
     pub contracts: &'a [Contract],
-    pub entry: u32,
 }

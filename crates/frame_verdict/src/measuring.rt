@@ -1,5 +1,5 @@
-//! The frames of a function of two files, measured by the budgets, which are over all of them together.
-ghost use Rattle.std.specs.Prelude.{◌≡◌, ◌≢◌, ◌≤◌, ◌<◌, ◌+◌, ◌-◌, ◌^◌, IfOk, MatchOption, length, min};
+//! The frames of a program, measured by the budgets, which are over all of them together.
+ghost use Rattle.std.specs.Prelude.{◌≡◌, ◌≤◌, ◌<◌, ◌+◌, ◌-◌, ◌^◌, IfOk, MatchOption, length, min};
 ghost use Rattle.call_form.specs.Views.{budget_of};
 ghost use Rattle.frame_laws.specs.FramePrices.{unrolled_price};
 ghost use Rattle.frame_spec.specs.FrameReports.{HasMore, IsWithin, last_rank};
@@ -63,18 +63,18 @@ fn left_behind(left: Left, unrolled: &Unrolled) -> Left
 /// The frame of a rank, unrolled and measured behind those of lower ranks; none where all together have too many points. The error is want of memory.
 fn measure_frame<'a, M: Machine>(
     alloc: Global,
-    framed: &Framed<'a>,
+    framed: &Framed<'a, M>,
     notes: &'a Notes,
     rank: usize,
     budget: &Budget,
     left: Left,
 ) -> Result<Option<Measured<'a>>, AllocError>
-    requires runs { CanUnroll M.machine framed.now }
+    requires runs { CanUnroll framed.now }
     requires rank { rank ≤ length framed.now.contracts.now }
     requires notes { IsNotesAt framed.now rank (notes_of notes.now) }
-    requires left { AreMeasured (whole_of_framed M.machine framed.now) budget.now.unroll budget.now.points rank left }
-    ensures { IfOk result (λ o. MatchOption o (HasMore (whole_of_framed M.machine framed.now) budget.now.unroll budget.now.points)
-        (IsMeasuredTo (whole_of_framed M.machine framed.now) rank M.form (budget_of budget.now))) }
+    requires left { AreMeasured (whole_of_framed framed.now) budget.now.unroll budget.now.points rank left }
+    ensures { IfOk result (λ o. MatchOption o (HasMore (whole_of_framed framed.now) budget.now.unroll budget.now.points)
+        (IsMeasuredTo (whole_of_framed framed.now) rank M.form (budget_of budget.now))) }
 {
     match unroll_rank::<M>(alloc, framed, notes, rank, budget.unroll, left.points) {
         Ok(unrolled) => {
@@ -90,18 +90,18 @@ fn measure_frame<'a, M: Machine>(
 /// error is want of memory.
 fn measure_by_notes<'a, M: Machine>(
     alloc: Global,
-    framed: &Framed<'a>,
+    framed: &Framed<'a, M>,
     notes: &'a Notes,
     rank: usize,
     budget: &Budget,
     left: Left,
 ) -> Result<Option<Left>, AllocError>
-    requires runs { CanUnroll M.machine framed.now }
+    requires runs { CanUnroll framed.now }
     requires rank { rank < length framed.now.contracts.now }
     requires notes { IsNotesAt framed.now rank (notes_of notes.now) }
-    requires left { AreMeasured (whole_of_framed M.machine framed.now) budget.now.unroll budget.now.points rank left }
-    ensures { IfOk result (λ o. MatchOption o (HasMore (whole_of_framed M.machine framed.now) budget.now.unroll budget.now.points)
-        (AreMeasured (whole_of_framed M.machine framed.now) budget.now.unroll budget.now.points (rank + 1))) }
+    requires left { AreMeasured (whole_of_framed framed.now) budget.now.unroll budget.now.points rank left }
+    ensures { IfOk result (λ o. MatchOption o (HasMore (whole_of_framed framed.now) budget.now.unroll budget.now.points)
+        (AreMeasured (whole_of_framed framed.now) budget.now.unroll budget.now.points (rank + 1))) }
 {
     match measure_frame::<M>(alloc, framed, notes, rank, budget, left)? {
         None => Ok(None),
@@ -112,16 +112,16 @@ fn measure_by_notes<'a, M: Machine>(
 /// What is left behind the frame of the contract of a rank, and those of lower ranks; none where they have too many points. The error is want of memory.
 fn measure_contract<M: Machine>(
     alloc: Global,
-    framed: &Framed,
+    framed: &Framed<M>,
     rank: usize,
     budget: &Budget,
     left: Left,
 ) -> Result<Option<Left>, AllocError>
-    requires runs { CanUnroll M.machine framed.now }
+    requires runs { CanUnroll framed.now }
     requires rank { rank < length framed.now.contracts.now }
-    requires left { AreMeasured (whole_of_framed M.machine framed.now) budget.now.unroll budget.now.points rank left }
-    ensures { IfOk result (λ o. MatchOption o (HasMore (whole_of_framed M.machine framed.now) budget.now.unroll budget.now.points)
-        (AreMeasured (whole_of_framed M.machine framed.now) budget.now.unroll budget.now.points (rank + 1))) }
+    requires left { AreMeasured (whole_of_framed framed.now) budget.now.unroll budget.now.points rank left }
+    ensures { IfOk result (λ o. MatchOption o (HasMore (whole_of_framed framed.now) budget.now.unroll budget.now.points)
+        (AreMeasured (whole_of_framed framed.now) budget.now.unroll budget.now.points (rank + 1))) }
 {
     let notes = notes_of_rank(alloc, framed, rank)?;
     let framed = *framed;
@@ -132,12 +132,12 @@ fn measure_contract<M: Machine>(
 /// What is left behind the frames of all contracts; none where they have too many points. The error is want of memory.
 fn measure_contracts<M: Machine>(
     alloc: Global,
-    framed: &Framed,
+    framed: &Framed<M>,
     budget: &Budget,
 ) -> Result<Option<Left>, AllocError>
-    requires runs { CanUnroll M.machine framed.now }
-    ensures { IfOk result (λ o. MatchOption o (HasMore (whole_of_framed M.machine framed.now) budget.now.unroll budget.now.points)
-        (AreMeasured (whole_of_framed M.machine framed.now) budget.now.unroll budget.now.points (length framed.now.contracts.now))) }
+    requires runs { CanUnroll framed.now }
+    ensures { IfOk result (λ o. MatchOption o (HasMore (whole_of_framed framed.now) budget.now.unroll budget.now.points)
+        (AreMeasured (whole_of_framed framed.now) budget.now.unroll budget.now.points (length framed.now.contracts.now))) }
 {
     let mut left = Left {
         points: budget.points,
@@ -180,17 +180,17 @@ fn weigh<'a>(budget: &Budget, measured: Measured<'a>) -> Result<Weighed<'a>, All
 /// both, the function's own is answered, which is the last. A price of 2^128 - 1 or more counts as want of memory, which is the error.
 pub fn measure<'a, M: Machine>(
     alloc: Global,
-    framed: &Framed<'a>,
+    framed: &Framed<'a, M>,
     budget: &Budget,
 ) -> Result<Weighed<'a>, AllocError>
-    requires runs { CanUnroll M.machine framed.now }
-    ensures { IfOk result (IsWeighed (whole_of_framed M.machine framed.now) M.form (budget_of budget.now)) }
+    requires runs { CanUnroll framed.now }
+    ensures { IfOk result (IsWeighed (whole_of_framed framed.now) M.form (budget_of budget.now)) }
 {
     let Some(left) = measure_contracts::<M>(alloc, framed, budget)? else {
         return Ok(too_many(budget));
     };
     let last = framed.contracts.len();
-    match measure_frame::<M>(alloc, framed, framed.notes, last, budget, left)? {
+    match measure_frame::<M>(alloc, framed, framed.program.notes, last, budget, left)? {
         None => Ok(too_many(budget)),
         Some(measured) => {
             let weighed = weigh(budget, measured)?;
@@ -202,16 +202,16 @@ pub fn measure<'a, M: Machine>(
 /// The frame of the contract of a rank, unrolled by its notes, where all frames are within the budgets. The error is want of memory.
 pub fn unroll_within<'a, M: Machine>(
     alloc: Global,
-    framed: &Framed<'a>,
+    framed: &Framed<'a, M>,
     notes: &'a Notes,
     rank: usize,
     budget: &Budget,
 ) -> Result<Unrolled<'a>, AllocError>
-    requires runs { CanUnroll M.machine framed.now }
+    requires runs { CanUnroll framed.now }
     requires rank { rank ≤ length framed.now.contracts.now }
     requires notes { IsNotesAt framed.now rank (notes_of notes.now) }
-    requires within { IsWithin (whole_of_framed M.machine framed.now) (budget_of budget.now) }
-    ensures { IfOk result (IsFrameUnrolled (frame_at M.machine framed.now rank) (contracts_of framed.now) budget.now.unroll M.form) }
+    requires within { IsWithin (whole_of_framed framed.now) (budget_of budget.now) }
+    ensures { IfOk result (IsFrameUnrolled (frame_at framed.now rank) (contracts_of framed.now) budget.now.unroll M.form) }
 {
     match unroll_rank::<M>(alloc, framed, notes, rank, budget.unroll, budget.points) {
         Ok(unrolled) => Ok(unrolled),

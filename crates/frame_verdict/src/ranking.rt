@@ -1,7 +1,7 @@
-//! The verdict on a function of two files whose notes have invariants or contracts.
-ghost use Rattle.std.specs.Prelude.{◌≡◌, ◌≢◌, ◌≤◌, ◌<◌, ◌+◌, [], All, IfOk, length, map};
+//! The verdict on a program whose notes have invariants or contracts.
+ghost use Rattle.std.specs.Prelude.{◌≡◌, ◌≢◌, ◌<◌, [], All, IfOk, length, map};
 ghost use Rattle.std.specs.List.Sorted.{IsStrictlyIncreasing};
-ghost use Rattle.bilv_spec.specs.Files.{order_of, program_of};
+ghost use Rattle.program_value.specs.Programs.{program_of};
 ghost use Rattle.call_form.specs.Views.{budget_of};
 ghost use Rattle.frame_spec.specs.FrameReports.{IsRightReport, IsWithin, PassBelow, last_rank};
 ghost use Rattle.frame_spec.specs.FrameVerdict.{Whole};
@@ -9,10 +9,8 @@ ghost use Rattle.machine_spec.specs.Machine.{IsAtPlace};
 ghost use Rattle.machine_spec.specs.StateText.{Layout};
 ghost use Rattle.notes_value.specs.FrameViews.{contract_of};
 ghost use Rattle.notes_value.specs.NoteViews.{notes_of};
-ghost use Rattle.notes_value.specs.Reads.{AreOver, AreReadable, IsReadableContract};
 ghost use Rattle.call_form.specs.declared.budget.Budget.{Budget as Budgets};
 ghost use Rattle.frame_verdict.specs.FrameFunctions.{CanRun, IsCallable, IsNotesAt, IsReady, whole_of_framed};
-ghost use Rattle.frame_verdict.specs.FrameMeasures.{IsFrameUnrolled};
 ghost use Rattle.frame_verdict.specs.FrameVerdicts.{IsFrameVerdict, evidence_of, report_of};
 ghost use Rattle.frame_verdict.specs.JudgedFrames.{ArePassed, ArePassedTo, IsJudged, IsPassing};
 
@@ -24,9 +22,9 @@ use crate::segments::Shown;
 use crate::verifying::judge_frame;
 use crate::{FrameVerdict, Named, Passed};
 use call_form::Budget;
-use elf32_reader::Image;
 use machine_law::Machine;
 use notes_value::{Contract, Notes};
+use program_value::Program;
 use question_form::Unrolled;
 use std::alloc::{AllocError, Global};
 
@@ -81,17 +79,17 @@ fn pass_or_end(rank: usize, judged: Judged) -> Passing
 /// What the frame of the contract of a rank comes to by the notes that are the frame's, where those of lower ranks pass. The error is want of memory.
 fn judge_by_notes<'a, M: Machine>(
     alloc: Global,
-    framed: &Framed<'a>,
+    framed: &Framed<'a, M>,
     notes: &'a Notes,
     budget: &Budget,
     rank: usize,
 ) -> Result<Passing, AllocError>
-    requires runs { CanRun M.machine framed.now }
+    requires runs { CanRun framed.now }
     requires rank { rank < length framed.now.contracts.now }
     requires notes { IsNotesAt framed.now rank (notes_of notes.now) }
-    requires within { IsWithin (whole_of_framed M.machine framed.now) (budget_of budget.now) }
-    requires below { PassBelow (whole_of_framed M.machine framed.now) budget.now.unroll rank }
-    ensures { IfOk result (IsPassing (whole_of_framed M.machine framed.now) rank M.form budget.now) }
+    requires within { IsWithin (whole_of_framed framed.now) (budget_of budget.now) }
+    requires below { PassBelow (whole_of_framed framed.now) budget.now.unroll rank }
+    ensures { IfOk result (IsPassing (whole_of_framed framed.now) rank M.form budget.now) }
 {
     let unrolled = unroll_within::<M>(alloc, framed, notes, rank, budget)?;
     let judged = judge_frame::<M>(alloc, framed, budget, rank, &unrolled)?;
@@ -101,15 +99,15 @@ fn judge_by_notes<'a, M: Machine>(
 /// What the frame of the contract of a rank comes to, where those of lower ranks pass. The error is want of memory.
 fn judge_contract<M: Machine>(
     alloc: Global,
-    framed: &Framed,
+    framed: &Framed<M>,
     budget: &Budget,
     rank: usize,
 ) -> Result<Passing, AllocError>
-    requires runs { CanRun M.machine framed.now }
+    requires runs { CanRun framed.now }
     requires rank { rank < length framed.now.contracts.now }
-    requires within { IsWithin (whole_of_framed M.machine framed.now) (budget_of budget.now) }
-    requires below { PassBelow (whole_of_framed M.machine framed.now) budget.now.unroll rank }
-    ensures { IfOk result (IsPassing (whole_of_framed M.machine framed.now) rank M.form budget.now) }
+    requires within { IsWithin (whole_of_framed framed.now) (budget_of budget.now) }
+    requires below { PassBelow (whole_of_framed framed.now) budget.now.unroll rank }
+    ensures { IfOk result (IsPassing (whole_of_framed framed.now) rank M.form budget.now) }
 {
     let notes = notes_of_rank(alloc, framed, rank)?;
     let framed = *framed;
@@ -120,12 +118,12 @@ fn judge_contract<M: Machine>(
 /// What the frames of all contracts come to, in the order of their ranks up to the first that does not pass. The error is want of memory.
 fn judge_contracts<M: Machine>(
     alloc: Global,
-    framed: &Framed,
+    framed: &Framed<M>,
     budget: &Budget,
 ) -> Result<AllPassing, AllocError>
-    requires runs { CanRun M.machine framed.now }
-    requires within { IsWithin (whole_of_framed M.machine framed.now) (budget_of budget.now) }
-    ensures { IfOk result (ArePassed (whole_of_framed M.machine framed.now) M.form budget.now) }
+    requires runs { CanRun framed.now }
+    requires within { IsWithin (whole_of_framed framed.now) (budget_of budget.now) }
+    ensures { IfOk result (ArePassed (whole_of_framed framed.now) M.form budget.now) }
 {
     let mut passed = Vec::new(alloc);
     for rank in 0..framed.contracts.len() {
@@ -223,12 +221,12 @@ fn last_verdict(
 /// The verdict where all frames are within the budgets; this is the function's own, unrolled. The error is want of memory.
 fn verdict_within<M: Machine>(
     alloc: Global,
-    framed: &Framed,
+    framed: &Framed<M>,
     budget: &Budget,
     unrolled: &Unrolled,
 ) -> Result<FrameVerdict, AllocError>
-    requires ready { IsReady M.machine M.form framed.now budget.now (length framed.now.contracts.now) unrolled.now }
-    ensures { IfOk result (IsFrameVerdict (whole_of_framed M.machine framed.now) M.form budget.now) }
+    requires ready { IsReady M.form framed.now budget.now (length framed.now.contracts.now) unrolled.now }
+    ensures { IfOk result (IsFrameVerdict (whole_of_framed framed.now) M.form budget.now) }
 {
     let passed = match judge_contracts::<M>(alloc, framed, budget)? {
         AllPassing::Pass(passed) => passed,
@@ -240,8 +238,8 @@ fn verdict_within<M: Machine>(
     Ok(verdict)
 }
 
-/// The verdict on the function at an address of an image, at which a row can stand, by its notes and within the budgets, with what shows it. `invariants` are the
-/// rising numbers of those assert lines of the notes that are invariants: their addresses are the heads at which runs are cut. `contracts` are those of the notes,
+/// The verdict on a program, at whose function's address a row can stand, within the budgets, with what shows it. `invariants` are the
+/// rising numbers of those assert lines of its notes that are invariants: their addresses are the heads at which runs are cut. `contracts` are those of the notes,
 /// in the order of their ranks; each has a frame, whose calls step over the contracts of lower ranks, and the function's own frame steps over all of them. First
 /// comes that all frames have more points than the budget, then that their price is above the budget, then the frames in the order of their ranks up to the first
 /// that does not pass, each by its questions in their order: whether there is an entry state; whether a segment from one fails; where there is a head, whether one
@@ -252,33 +250,25 @@ fn verdict_within<M: Machine>(
 /// Want of memory; a price of 2^128 - 1 or more counts as that.
 pub fn verify_frame<'a, M: Machine>(
     alloc: Global,
-    image: &'a Image<'a>,
-    notes: &'a Notes,
+    program: &Program<'a, M>,
     invariants: &'a [u32],
     contracts: &'a [Contract],
-    entry: u32,
     budget: &Budget,
 ) -> Result<FrameVerdict, AllocError>
-    requires order { order_of image.now ≡ M.machine.endian }
-    requires readable { AreReadable M.machine.has_register (notes_of notes.now) }
-    requires over { AreOver M.machine.has_register M.machine.has_flag (notes_of notes.now) }
     requires rising { IsStrictlyIncreasing invariants.now }
-    requires place { IsAtPlace M.machine.narrow entry }
-    requires read { All (λ x. IsReadableContract M.machine.has_register (contract_of x)) contracts.now }
+    requires place { IsAtPlace M.machine.narrow program.now.entry }
     requires callable { All (λ x. IsCallable M.machine (contract_of x)) contracts.now }
     requires alone { contracts.now ≢ [] → invariants.now ≡ [] }
     ensures { IfOk result (λ v. IsRightReport (record {
-      program = program_of M.machine image.now (notes_of notes.now) entry;
+      program = program_of program.now;
       invariants = invariants.now;
       contracts = map contract_of contracts.now;
     }) M.form (budget_of budget.now) (report_of v) (evidence_of v)) }
 {
     let framed = Framed {
-        image,
-        notes,
+        program: *program,
         invariants,
         contracts,
-        entry,
     };
     match measure::<M>(alloc, &framed, budget)? {
         Weighed::Exceeded(past) => Ok(FrameVerdict::Exceeded(past)),

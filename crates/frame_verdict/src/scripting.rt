@@ -1,6 +1,6 @@
-//! The scripts of the questions of a frame of a function of two files whose notes may have invariants or contracts, for another solver.
-ghost use Rattle.std.specs.Prelude.{◌≡◌, ◌≤◌, ◌<◌, ℕ, List, All, IfOk, length, map, string_bytes};
-ghost use Rattle.bilv_spec.specs.Files.{order_of, program_of};
+//! The scripts of the questions of a frame of a program whose notes may have invariants or contracts, for another solver.
+ghost use Rattle.std.specs.Prelude.{◌≤◌, ◌<◌, ℕ, All, IfOk, length, map, string_bytes};
+ghost use Rattle.program_value.specs.Programs.{program_of};
 ghost use Rattle.call_form.specs.Views.{budget_of};
 ghost use Rattle.frame_spec.specs.FrameReports.{IsWithin};
 ghost use Rattle.frame_spec.specs.FrameVerdict.{Whole, frame_of};
@@ -10,7 +10,6 @@ ghost use Rattle.machine_spec.specs.Machine.{IsAtPlace};
 ghost use Rattle.machine_spec.specs.StateText.{Layout};
 ghost use Rattle.notes_value.specs.FrameViews.{contract_of};
 ghost use Rattle.notes_value.specs.NoteViews.{notes_of};
-ghost use Rattle.notes_value.specs.Reads.{AreOver};
 ghost use Rattle.question_form.specs.Asked as questions;
 ghost use Rattle.question_form.specs.FrameQuestions.{frame_passive_of};
 ghost use Rattle.question_form.specs.FrameViews.{frame_unrolled_of};
@@ -25,10 +24,10 @@ use crate::framed::Framed;
 use crate::measuring::{Weighed, measure, unroll_within};
 use crate::ranks::notes_of_rank;
 use call_form::Budget;
-use elf32_reader::Image;
 use machine_law::Machine;
 use notes_value::{Contract, Notes};
 use passify::passive_of_frame;
+use program_value::Program;
 use question_form::{Asked, Passive, Unrolled};
 use smtlib_print::frame_script;
 use std::alloc::{AllocError, Global};
@@ -71,17 +70,17 @@ fn script_unrolled(
 /// memory, or of numbers.
 fn script_by_notes<'a, M: Machine>(
     alloc: Global,
-    framed: &Framed<'a>,
+    framed: &Framed<'a, M>,
     notes: &'a Notes,
     rank: usize,
     budget: &Budget,
     question: Asked,
 ) -> Result<Scripted, AllocError>
-    requires runs { CanUnroll M.machine framed.now }
+    requires runs { CanUnroll framed.now }
     requires rank { rank < length framed.now.contracts.now }
     requires notes { IsNotesAt framed.now rank (notes_of notes.now) }
-    requires within { IsWithin (whole_of_framed M.machine framed.now) (budget_of budget.now) }
-    ensures { IfOk result (IsFrameScripted (whole_of_framed M.machine framed.now) rank M.form (budget_of budget.now) (questions.frame_question question)) }
+    requires within { IsWithin (whole_of_framed framed.now) (budget_of budget.now) }
+    ensures { IfOk result (IsFrameScripted (whole_of_framed framed.now) rank M.form (budget_of budget.now) (questions.frame_question question)) }
 {
     let unrolled = unroll_within::<M>(alloc, framed, notes, rank, budget)?;
     let scripted = script_unrolled(alloc, budget, question, &unrolled)?;
@@ -91,15 +90,15 @@ fn script_by_notes<'a, M: Machine>(
 /// The script of a question of the frame of the contract of a rank, where all frames are within the budgets. The error is want of memory, or of numbers.
 fn script_contract<M: Machine>(
     alloc: Global,
-    framed: &Framed,
+    framed: &Framed<M>,
     rank: usize,
     budget: &Budget,
     question: Asked,
 ) -> Result<Scripted, AllocError>
-    requires runs { CanUnroll M.machine framed.now }
+    requires runs { CanUnroll framed.now }
     requires rank { rank < length framed.now.contracts.now }
-    requires within { IsWithin (whole_of_framed M.machine framed.now) (budget_of budget.now) }
-    ensures { IfOk result (IsFrameScripted (whole_of_framed M.machine framed.now) rank M.form (budget_of budget.now) (questions.frame_question question)) }
+    requires within { IsWithin (whole_of_framed framed.now) (budget_of budget.now) }
+    ensures { IfOk result (IsFrameScripted (whole_of_framed framed.now) rank M.form (budget_of budget.now) (questions.frame_question question)) }
 {
     let notes = notes_of_rank(alloc, framed, rank)?;
     let framed = *framed;
@@ -108,7 +107,7 @@ fn script_contract<M: Machine>(
 }
 
 /// The script of a question about a frame of the function at an address of an image, at which a row can stand, by its notes and within the budgets, in SMT-LIB
-/// 2.6, whether the question is due or not. `invariants` are the rising numbers of those assert lines of the notes that are invariants, `contracts` those of the
+/// 2.6, whether the question is due or not. `invariants` are the rising numbers of those assert lines of its notes that are invariants, `contracts` those of the
 /// notes in the order of their ranks; the frame is that of the contract of a rank, or with as many as there are contracts for its rank the function's own. The
 /// budgets are over all frames. Where there is a head, the script declares the head state too, whatever the question is.
 ///
@@ -117,32 +116,26 @@ fn script_contract<M: Machine>(
 /// Want of memory, which a price of 2^128 - 1 or more counts as, and so does want of numbers: there are 2^32 - 1 for terms.
 pub fn script_frame<'a, M: Machine>(
     alloc: Global,
-    image: &'a Image<'a>,
-    notes: &'a Notes,
+    program: &Program<'a, M>,
     invariants: &'a [u32],
     contracts: &'a [Contract],
-    entry: u32,
     rank: usize,
     budget: &Budget,
     question: Asked,
 ) -> Result<Scripted, AllocError>
-    requires order { order_of image.now ≡ M.machine.endian }
-    requires over { AreOver M.machine.has_register M.machine.has_flag (notes_of notes.now) }
-    requires place { IsAtPlace M.machine.narrow entry }
+    requires place { IsAtPlace M.machine.narrow program.now.entry }
     requires callable { All (λ x. IsCallable M.machine (contract_of x)) contracts.now }
     requires rank { rank ≤ length contracts.now }
     ensures { IfOk result (IsFrameScripted (record {
-      program = program_of M.machine image.now (notes_of notes.now) entry;
+      program = program_of program.now;
       invariants = invariants.now;
       contracts = map contract_of contracts.now;
     }) rank M.form (budget_of budget.now) (questions.frame_question question)) }
 {
     let framed = Framed {
-        image,
-        notes,
+        program: *program,
         invariants,
         contracts,
-        entry,
     };
     match measure::<M>(alloc, &framed, budget)? {
         Weighed::Exceeded(past) => Ok(Scripted::Exceeded(past)),

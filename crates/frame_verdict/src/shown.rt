@@ -1,5 +1,5 @@
 //! The runs that show a verdict.
-ghost use Rattle.std.specs.Prelude.{◌≡◌, ◌≢◌, ◌<◌, ◌≤◌, ◌-◌, ℕ, List, [], None, Some, true, false, IfOk, IfSome, MatchOption, length, map, option_map};
+ghost use Rattle.std.specs.Prelude.{◌≡◌, ◌≢◌, ◌<◌, ◌≤◌, ◌-◌, ℕ, List, [], None, Some, true, false, IfOk, IfSome, MatchOption, length, option_map};
 ghost use Rattle.bilv_spec.specs.Points.{is_known_at};
 ghost use Rattle.frame_spec.specs.FrameFound.{Found};
 ghost use Rattle.frame_spec.specs.FrameReports.{head_of};
@@ -12,7 +12,7 @@ ghost use Rattle.start_value.specs.Starts.{written_of};
 ghost use Rattle.state_text.specs.Starts.{written_head_of};
 ghost use Rattle.table_run.specs.CalledFrames.{called_event_of};
 ghost use Rattle.table_run.specs.CalledRuns.{IsFoundAs, cause_of};
-ghost use Rattle.table_run.specs.FrameEnds.{frame_found_of, frame_of, whole_of};
+ghost use Rattle.table_run.specs.FrameEnds.{frame_found_of, whole_of};
 ghost use Rattle.frame_rounds.specs.FrameGrounds.{AreSegments};
 ghost use Rattle.frame_verdict.specs.FrameFunctions.{CanRun, IsReady, frame_at, frame_of_framed, program_of_framed, whole_of_framed};
 ghost use Rattle.frame_verdict.specs.FrameVerdicts.{named_of};
@@ -28,33 +28,34 @@ use frame_start::Segments;
 use frame_text::FramedEvent;
 use machine_law::Machine;
 use program_points::Root;
+use program_value::RankedFrame;
 use question_form::{Asked, Unrolled};
 use state_text::HeadStart;
 use std::alloc::{AllocError, Global};
 use table_run::{
-    CalledEnding, CalledEvent, FrameEnding, RankedFrame, head_ok, head_state, made_calls,
-    run_called, run_frame, start_state,
+    CalledEnding, CalledEvent, FrameEnding, head_ok, head_state, made_calls, run_called, run_frame,
+    start_state,
 };
 
 /// Whether a written head state is one for an entry state: its invariants are true. The error is want of memory.
 fn is_head_for<M: Machine>(
     alloc: Global,
-    framed: &Framed,
+    framed: &Framed<M>,
     entry: &M::State,
     head: Option<&HeadStart>,
 ) -> Result<bool, AllocError>
-    requires runs { CanRun M.machine framed.now }
-    requires head { IsHeadWritten (program_of_framed M.machine framed.now) framed.now.invariants.now M.form (option_map (λ h. h.now) head) }
-    ensures yes { IfOk result (λ b. b ≡ true → IsHeadFor (frame_of_framed M.machine framed.now) (M.State.view entry.now)
-        (head_of (frame_of_framed M.machine framed.now) M.form (option_map (λ h. written_head_of h.now) head.entry))) }
-    ensures no { IfOk result (λ b. b ≡ false → ¬ IsHeadFor (frame_of_framed M.machine framed.now) (M.State.view entry.now)
-        (head_of (frame_of_framed M.machine framed.now) M.form (option_map (λ h. written_head_of h.now) head.entry))) }
+    requires runs { CanRun framed.now }
+    requires head { IsHeadWritten (program_of_framed framed.now) framed.now.invariants.now M.form (option_map (λ h. h.now) head) }
+    ensures yes { IfOk result (λ b. b ≡ true → IsHeadFor (frame_of_framed framed.now) (M.State.view entry.now)
+        (head_of (frame_of_framed framed.now) M.form (option_map (λ h. written_head_of h.now) head.entry))) }
+    ensures no { IfOk result (λ b. b ≡ false → ¬ IsHeadFor (frame_of_framed framed.now) (M.State.view entry.now)
+        (head_of (frame_of_framed framed.now) M.form (option_map (λ h. written_head_of h.now) head.entry))) }
 {
     match head {
         None => Ok(true),
         Some(head) => {
-            let state = head_state::<M>(alloc, framed.image, head)?;
-            match head_ok::<M>(framed.image, framed.notes, framed.invariants, entry, &state) {
+            let state = head_state::<M>(alloc, framed.program.image, head)?;
+            match head_ok::<M>(&framed.program, framed.invariants, entry, &state) {
                 Ok(()) => Ok(true),
                 Err(_) => Ok(false),
             }
@@ -66,33 +67,25 @@ fn is_head_for<M: Machine>(
 /// of memory.
 fn ending<M: Machine>(
     alloc: Global,
-    framed: &Framed,
+    framed: &Framed<M>,
     budget: &Budget,
     shown: &Shown,
 ) -> Result<Option<FrameEnding>, AllocError>
-    requires runs { CanRun M.machine framed.now }
-    requires start { IsWritten M.form (is_known_at (program_of_framed M.machine framed.now)) (written_of shown.now.start) }
-    requires head { IsHeadWritten (program_of_framed M.machine framed.now) framed.now.invariants.now M.form shown.now.head }
-    ensures { IfOk result (λ o. IsEndOf (frame_of_framed M.machine framed.now) budget.now.unroll (budget.now.points - 1)
-        (start_of (program_of_framed M.machine framed.now) framed.now.invariants.now M.form shown.now) o) }
+    requires runs { CanRun framed.now }
+    requires start { IsWritten M.form (is_known_at (program_of_framed framed.now)) (written_of shown.now.start) }
+    requires head { IsHeadWritten (program_of_framed framed.now) framed.now.invariants.now M.form shown.now.head }
+    ensures { IfOk result (λ o. IsEndOf (frame_of_framed framed.now) budget.now.unroll (budget.now.points - 1)
+        (start_of (program_of_framed framed.now) framed.now.invariants.now M.form shown.now) o) }
 {
-    let state = start_state::<M>(
-        alloc,
-        framed.image,
-        framed.notes,
-        framed.entry,
-        &shown.start,
-    )?;
+    let state = start_state::<M>(alloc, &framed.program, &shown.start)?;
     let head = shown.head.as_ref();
     if !is_head_for::<M>(alloc, framed, &state, head)? {
         return Ok(None);
     }
     let ending = run_frame::<M>(
         alloc,
-        framed.image,
-        framed.notes,
+        &framed.program,
         framed.invariants,
-        framed.entry,
         &shown.start,
         head,
         Some(budget.unroll),
@@ -155,15 +148,15 @@ fn named_called(ending: CalledEnding) -> Option<Named>
 /// head state, where it begins at a head. The error is want of memory.
 fn segment_end<M: Machine>(
     alloc: Global,
-    framed: &Framed,
+    framed: &Framed<M>,
     budget: &Budget,
     shown: Shown,
 ) -> Result<Option<Ended>, AllocError>
-    requires runs { CanRun M.machine framed.now }
-    requires shown { IsShownAt (whole_of (program_of_framed M.machine framed.now) framed.now.invariants.now) 0 M.form (shown_of shown) }
-    requires head { IsHeadWritten (program_of_framed M.machine framed.now) framed.now.invariants.now M.form shown.head }
+    requires runs { CanRun framed.now }
+    requires shown { IsShownAt (whole_of (program_of_framed framed.now) framed.now.invariants.now) 0 M.form (shown_of shown) }
+    requires head { IsHeadWritten (program_of_framed framed.now) framed.now.invariants.now M.form shown.head }
     requires none { shown.calls.items ≡ [] }
-    ensures { IfOk result (IsCame (whole_of (program_of_framed M.machine framed.now) framed.now.invariants.now) 0 budget.now.unroll budget.now.points M.form
+    ensures { IfOk result (IsCame (whole_of (program_of_framed framed.now) framed.now.invariants.now) 0 budget.now.unroll budget.now.points M.form
         (shown_of shown)) }
 {
     match ending::<M>(alloc, framed, budget, &shown)? {
@@ -183,22 +176,20 @@ fn segment_end<M: Machine>(
 /// too many. Of what contract steps are given that stays which they take. The error is want of memory.
 fn called_end<M: Machine>(
     alloc: Global,
-    framed: &Framed,
+    framed: &Framed<M>,
     budget: &Budget,
     rank: usize,
     shown: Shown,
 ) -> Result<Option<Ended>, AllocError>
-    requires runs { CanRun M.machine framed.now }
+    requires runs { CanRun framed.now }
     requires some { framed.now.contracts.now ≢ [] }
     requires rank { rank ≤ length framed.now.contracts.now }
-    requires ends { CanEnd M.machine M.form framed.now budget.now rank shown }
-    ensures { IfOk result (IsCame (whole_of_framed M.machine framed.now) rank budget.now.unroll budget.now.points M.form (shown_of shown)) }
+    requires ends { CanEnd M.form framed.now budget.now rank shown }
+    ensures { IfOk result (IsCame (whole_of_framed framed.now) rank budget.now.unroll budget.now.points M.form (shown_of shown)) }
 {
     let frame = RankedFrame {
-        image: framed.image,
-        notes: framed.notes,
+        program: framed.program,
         contracts: framed.contracts,
-        entry: framed.entry,
         rank,
     };
     let (k, limit) = (budget.unroll, budget.points);
@@ -219,15 +210,15 @@ fn called_end<M: Machine>(
 /// it begins at a head. The error is want of memory.
 fn came_to<M: Machine>(
     alloc: Global,
-    framed: &Framed,
+    framed: &Framed<M>,
     budget: &Budget,
     rank: usize,
     shown: Shown,
 ) -> Result<Option<Ended>, AllocError>
-    requires runs { CanRun M.machine framed.now }
+    requires runs { CanRun framed.now }
     requires rank { rank ≤ length framed.now.contracts.now }
-    requires ends { CanEnd M.machine M.form framed.now budget.now rank shown }
-    ensures { IfOk result (IsCame (whole_of_framed M.machine framed.now) rank budget.now.unroll budget.now.points M.form (shown_of shown)) }
+    requires ends { CanEnd M.form framed.now budget.now rank shown }
+    ensures { IfOk result (IsCame (whole_of_framed framed.now) rank budget.now.unroll budget.now.points M.form (shown_of shown)) }
 {
     if framed.contracts.is_empty() {
         let came = segment_end::<M>(alloc, framed, budget, shown)?;
@@ -263,7 +254,7 @@ fn is_end(asked: Asked, ending: Named) -> bool
 /// The start that is shown of the root of a number, with its end, if that is a start whose segment ends as a question asks. The error is want of memory.
 fn try_root<M: Machine>(
     alloc: Global,
-    framed: &Framed,
+    framed: &Framed<M>,
     budget: &Budget,
     rank: usize,
     unrolled: &Unrolled,
@@ -271,12 +262,12 @@ fn try_root<M: Machine>(
     asked: Asked,
     root: usize,
 ) -> Result<Option<Ended>, AllocError>
-    requires ready { IsReady M.machine M.form framed.now budget.now rank unrolled.now }
-    requires segments { AreSegments (frame_at M.machine framed.now rank) budget.now.unroll M.form (frame_question asked) unrolled.now segments.now }
+    requires ready { IsReady M.form framed.now budget.now rank unrolled.now }
+    requires segments { AreSegments (frame_at framed.now rank) budget.now.unroll M.form (frame_question asked) unrolled.now segments.now }
     requires root { root < length unrolled.now.roots.items }
     ensures { IfOk result (λ o. MatchOption o
-        (¬ EndsAsAsked (whole_of_framed M.machine framed.now) rank budget.now.unroll M.form (frame_question asked) unrolled.now segments.now root)
-        (IsEnded (whole_of_framed M.machine framed.now) rank budget.now.unroll M.form (frame_question asked))) }
+        (¬ EndsAsAsked (whole_of_framed framed.now) rank budget.now.unroll M.form (frame_question asked) unrolled.now segments.now root)
+        (IsEnded (whole_of_framed framed.now) rank budget.now.unroll M.form (frame_question asked))) }
 {
     if !wants(asked, unrolled.roots[root].head) {
         return Ok(None);
@@ -296,17 +287,17 @@ fn try_root<M: Machine>(
 /// The first start that is shown whose segment ends as a question other than the entry's asks, of those roots for which it asks. The error is want of memory.
 pub fn first_ended<M: Machine>(
     alloc: Global,
-    framed: &Framed,
+    framed: &Framed<M>,
     budget: &Budget,
     rank: usize,
     unrolled: &Unrolled,
     segments: &Segments,
     asked: Asked,
 ) -> Result<Ended, AllocError>
-    requires ready { IsReady M.machine M.form framed.now budget.now rank unrolled.now }
-    requires segments { AreSegments (frame_at M.machine framed.now rank) budget.now.unroll M.form (frame_question asked) unrolled.now segments.now }
+    requires ready { IsReady M.form framed.now budget.now rank unrolled.now }
+    requires segments { AreSegments (frame_at framed.now rank) budget.now.unroll M.form (frame_question asked) unrolled.now segments.now }
     requires later { asked ≢ Asked.Entry }
-    ensures { IfOk result (IsEnded (whole_of_framed M.machine framed.now) rank budget.now.unroll M.form (frame_question asked)) }
+    ensures { IfOk result (IsEnded (whole_of_framed framed.now) rank budget.now.unroll M.form (frame_question asked)) }
 {
     for root in 0..unrolled.roots.len() {
         let tried = try_root::<M>(alloc, framed, budget, rank, unrolled, segments, asked, root)?;

@@ -1,7 +1,7 @@
 //! The questions of the frame of a rank, in their order.
-ghost use Rattle.std.specs.Prelude.{◌≡◌, ◌≢◌, ◌≤◌, IfOk, length};
+ghost use Rattle.std.specs.Prelude.{◌≢◌, IfOk};
 ghost use Rattle.call_form.specs.Views.{budget_of};
-ghost use Rattle.frame_spec.specs.FrameQuestions.{FailQuestion, IsDue, TurnQuestion, StepQuestion};
+ghost use Rattle.frame_spec.specs.FrameQuestions.{FailQuestion, IsDue};
 ghost use Rattle.frame_spec.specs.FrameReports.{Refutes};
 ghost use Rattle.cnf_form.specs.Views.{proof_of};
 ghost use Rattle.question_form.specs.Asked.{frame_question};
@@ -28,18 +28,18 @@ use std::alloc::{AllocError, Global};
 /// What a question other than the entry's comes to that is due and true: the segment that shows it. The error is want of memory.
 fn shows<M: Machine>(
     alloc: Global,
-    framed: &Framed,
+    framed: &Framed<M>,
     budget: &Budget,
     rank: usize,
     unrolled: &Unrolled,
     segments: &Segments,
     asked: Asked,
 ) -> Result<Judged, AllocError>
-    requires ready { IsReady M.machine M.form framed.now budget.now rank unrolled.now }
-    requires segments { AreSegments (frame_at M.machine framed.now rank) budget.now.unroll M.form (frame_question asked) unrolled.now segments.now }
+    requires ready { IsReady M.form framed.now budget.now rank unrolled.now }
+    requires segments { AreSegments (frame_at framed.now rank) budget.now.unroll M.form (frame_question asked) unrolled.now segments.now }
     requires later { asked ≢ Asked.Entry }
-    requires due { IsDue (frame_at M.machine framed.now rank) budget.now.unroll (frame_question asked) }
-    ensures { IfOk result (IsJudged (whole_of_framed M.machine framed.now) rank M.form (budget_of budget.now)) }
+    requires due { IsDue (frame_at framed.now rank) budget.now.unroll (frame_question asked) }
+    ensures { IfOk result (IsJudged (whole_of_framed framed.now) rank M.form (budget_of budget.now)) }
 {
     let ended = first_ended::<M>(alloc, framed, budget, rank, unrolled, segments, asked)?;
     Ok(Judged::Shows(ended))
@@ -48,7 +48,7 @@ fn shows<M: Machine>(
 /// What the last question comes to, where there is an entry state, and no segment fails. The question about head states was asked only where there is a head.
 fn judge_turns<M: Machine>(
     alloc: Global,
-    framed: &Framed,
+    framed: &Framed<M>,
     budget: &Budget,
     rank: usize,
     passive: &Passive,
@@ -56,12 +56,12 @@ fn judge_turns<M: Machine>(
     fail: Proof,
     step: Option<Proof>,
 ) -> Result<Judged, AllocError>
-    requires ready { IsReady M.machine M.form framed.now budget.now rank passive.now.unrolled.now }
+    requires ready { IsReady M.form framed.now budget.now rank passive.now.unrolled.now }
     requires askable { IsFrameAskable passive.now }
-    requires entered { IsEntered (frame_at M.machine framed.now rank).program M.form (written_of start) }
-    requires fail { Refutes (frame_at M.machine framed.now rank) budget.now.unroll FailQuestion (proof_of fail) }
-    requires step { IsStepRefuted (frame_at M.machine framed.now rank) budget.now.unroll step }
-    ensures { IfOk result (IsJudged (whole_of_framed M.machine framed.now) rank M.form (budget_of budget.now)) }
+    requires entered { IsEntered (frame_at framed.now rank).program M.form (written_of start) }
+    requires fail { Refutes (frame_at framed.now rank) budget.now.unroll FailQuestion (proof_of fail) }
+    requires step { IsStepRefuted (frame_at framed.now rank) budget.now.unroll step }
+    ensures { IfOk result (IsJudged (whole_of_framed framed.now) rank M.form (budget_of budget.now)) }
 {
     match decide_frame(alloc, passive, Asked::Turn, budget.conflicts)? {
         FrameAnswered::Sat(segments) => shows::<M>(
@@ -92,18 +92,18 @@ fn judge_turns<M: Machine>(
 /// What the questions come to about head states, if there is a head, and about backward transfers, where there is an entry state, and no segment from one fails.
 fn judge_heads<M: Machine>(
     alloc: Global,
-    framed: &Framed,
+    framed: &Framed<M>,
     budget: &Budget,
     rank: usize,
     passive: &Passive,
     start: Start,
     fail: Proof,
 ) -> Result<Judged, AllocError>
-    requires ready { IsReady M.machine M.form framed.now budget.now rank passive.now.unrolled.now }
+    requires ready { IsReady M.form framed.now budget.now rank passive.now.unrolled.now }
     requires askable { IsFrameAskable passive.now }
-    requires entered { IsEntered (frame_at M.machine framed.now rank).program M.form (written_of start) }
-    requires fail { Refutes (frame_at M.machine framed.now rank) budget.now.unroll FailQuestion (proof_of fail) }
-    ensures { IfOk result (IsJudged (whole_of_framed M.machine framed.now) rank M.form (budget_of budget.now)) }
+    requires entered { IsEntered (frame_at framed.now rank).program M.form (written_of start) }
+    requires fail { Refutes (frame_at framed.now rank) budget.now.unroll FailQuestion (proof_of fail) }
+    ensures { IfOk result (IsJudged (whole_of_framed framed.now) rank M.form (budget_of budget.now)) }
 {
     if !passive.unrolled.heads {
         return judge_turns::<M>(alloc, framed, budget, rank, passive, start, fail, None);
@@ -140,14 +140,14 @@ fn judge_heads<M: Machine>(
 /// What the questions come to in their order.
 fn judge<M: Machine>(
     alloc: Global,
-    framed: &Framed,
+    framed: &Framed<M>,
     budget: &Budget,
     rank: usize,
     passive: &Passive,
 ) -> Result<Judged, AllocError>
-    requires ready { IsReady M.machine M.form framed.now budget.now rank passive.now.unrolled.now }
+    requires ready { IsReady M.form framed.now budget.now rank passive.now.unrolled.now }
     requires askable { IsFrameAskable passive.now }
-    ensures { IfOk result (IsJudged (whole_of_framed M.machine framed.now) rank M.form (budget_of budget.now)) }
+    ensures { IfOk result (IsJudged (whole_of_framed framed.now) rank M.form (budget_of budget.now)) }
 {
     let entered = match decide_frame(alloc, passive, Asked::Entry, budget.conflicts)? {
         FrameAnswered::Sat(segments) => segments.parts.entry,
@@ -182,13 +182,13 @@ fn judge<M: Machine>(
 /// What the questions of the unrolled frame of a rank come to. The error is want of memory.
 pub fn judge_frame<M: Machine>(
     alloc: Global,
-    framed: &Framed,
+    framed: &Framed<M>,
     budget: &Budget,
     rank: usize,
     unrolled: &Unrolled,
 ) -> Result<Judged, AllocError>
-    requires ready { IsReady M.machine M.form framed.now budget.now rank unrolled.now }
-    ensures { IfOk result (IsJudged (whole_of_framed M.machine framed.now) rank M.form (budget_of budget.now)) }
+    requires ready { IsReady M.form framed.now budget.now rank unrolled.now }
+    ensures { IfOk result (IsJudged (whole_of_framed framed.now) rank M.form (budget_of budget.now)) }
 {
     let passive = passive_of_frame(alloc, unrolled)?;
     let judged = judge::<M>(alloc, framed, budget, rank, &passive)?;

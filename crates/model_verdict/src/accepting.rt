@@ -2,18 +2,15 @@
 ghost use Rattle.std.specs.Prelude.{◌≡◌, ℕ, ◌≤◌, [], length, slice_index, IfOk};
 ghost use Rattle.word_spec.specs.Memory.{byte_in};
 ghost use Rattle.machine_spec.specs.StateText.{AreRising};
-ghost use Rattle.bilv_spec.specs.Files.{order_of};
 ghost use Rattle.bilv_spec.specs.PointLaws.{HasLawfulRows};
 ghost use Rattle.bilv_spec.specs.Questions as questions;
 ghost use Rattle.call_spec.specs.Calls.{EntryQuestion, FailQuestion, TurnQuestion};
 ghost use Rattle.machine_law.specs.Facts.{IsFit};
-ghost use Rattle.notes_value.specs.NoteViews.{notes_of};
-ghost use Rattle.notes_value.specs.Reads.{AreReadable};
 ghost use Rattle.start_value.specs.Starts.{written_of};
 ghost use Rattle.table_run.specs.Traces.{IsModelState, TakesChoices};
 ghost use Rattle.term_dag.specs.Readings.{reading_of};
 ghost use Rattle.question_form.specs.Views.{kind_of, unrolled_of};
-ghost use Rattle.verdict.specs.Functions.{program_of_function};
+ghost use Rattle.program_value.specs.Programs.{program_of};
 ghost use Rattle.verdict.specs.Grounds.{IsGround};
 ghost use Rattle.verdict.specs.Rounds.{IsAskable};
 ghost use Rattle.model_verdict.specs.Models.{filler, listed, HasModel, IsSound, IsSoundMemory};
@@ -25,12 +22,13 @@ use crate::filling::{fill_of, listed_of};
 use crate::{End, Judged};
 use machine_law::Machine;
 use model_text::{Model, ModelMemory};
+use program_value::Program;
 use question_form::{Kind, Passive};
 use start_value::Start;
 use std::alloc::{AllocError, Global};
 use table_run::{Ending, Traced, required_bytes, trace};
 use term_dag::Reading;
-use verdict::{Budget, Function};
+use verdict::Budget;
 
 /// A start with other bytes.
 fn with_bytes(start: Start, bytes: Vec<(u32, u8)>) -> Start
@@ -63,27 +61,23 @@ fn model_start(alloc: Global, model: &Model, choices: Vec<(u64, u8)>) -> Result<
 /// of memory.
 fn traced<M: Machine>(
     alloc: Global,
-    function: &Function,
+    program: &Program<M>,
     budget: &Budget,
     start: &Start,
     memory: &Option<ModelMemory>,
 ) -> Result<Traced, AllocError>
-    requires order { order_of function.now.image.now ≡ M.machine.endian }
-    requires readable { AreReadable M.machine.has_register (notes_of function.now.notes.now) }
     requires fit { IsFit M.form (written_of start.now) }
     requires choices { AreRising (written_of start.now).choices }
     requires sound { IsSoundMemory memory.now }
-    requires lawful { HasLawfulRows (program_of_function M.machine function.now) }
+    requires lawful { HasLawfulRows (program_of program.now) }
     ensures { IfOk result (λ t. (r : questions.Reading) →
-        IsModelState (program_of_function M.machine function.now) M.form (written_of start.now) (filler memory.now) (listed memory.now) r.state →
-        TakesChoices (program_of_function M.machine function.now) budget.now.unroll r (byte_in (written_of start.now).choices) →
-        IsTracedBy (program_of_function M.machine function.now) budget.now.unroll budget.now.points r t) }
+        IsModelState (program_of program.now) M.form (written_of start.now) (filler memory.now) (listed memory.now) r.state →
+        TakesChoices (program_of program.now) budget.now.unroll r (byte_in (written_of start.now).choices) →
+        IsTracedBy (program_of program.now) budget.now.unroll budget.now.points r t) }
 {
     let traced = trace::<M>(
         alloc,
-        function.image,
-        function.notes,
-        function.entry,
+        program,
         start,
         fill_of(memory),
         listed_of(memory),
@@ -96,29 +90,19 @@ fn traced<M: Machine>(
 /// The start of an entry state, with the bytes that the require lines read. The error is want of memory.
 fn entered<M: Machine>(
     alloc: Global,
-    function: &Function,
+    program: &Program<M>,
     start: Start,
     memory: &Option<ModelMemory>,
 ) -> Result<Judged, AllocError>
-    requires order { order_of function.now.image.now ≡ M.machine.endian }
-    requires readable { AreReadable M.machine.has_register (notes_of function.now.notes.now) }
-    requires lawful { HasLawfulRows (program_of_function M.machine function.now) }
+    requires lawful { HasLawfulRows (program_of program.now) }
     requires fit { IsFit M.form (written_of start) }
     requires none { (written_of start).choices ≡ [] }
     requires sound { IsSoundMemory memory.now }
     ensures { IfOk result (λ j. (k : ℕ) (r : questions.Reading) →
-        IsStartBy (program_of_function M.machine function.now) M.form k EntryQuestion (written_of start) (filler memory.now) (listed memory.now) r →
-        IsShownAs (program_of_function M.machine function.now) M.form k EntryQuestion r j) }
+        IsStartBy (program_of program.now) M.form k EntryQuestion (written_of start) (filler memory.now) (listed memory.now) r →
+        IsShownAs (program_of program.now) M.form k EntryQuestion r j) }
 {
-    let bytes = required_bytes::<M>(
-        alloc,
-        function.image,
-        function.notes,
-        function.entry,
-        &start,
-        fill_of(memory),
-        listed_of(memory),
-    )?;
+    let bytes = required_bytes::<M>(alloc, program, &start, fill_of(memory), listed_of(memory))?;
     Ok(Judged::Accepted {
         end: End::AtEntry,
         start: with_bytes(start, bytes),
@@ -128,24 +112,22 @@ fn entered<M: Machine>(
 /// The start of a run that has an event, with the bytes that the require lines and the run read. The error is want of memory.
 fn failed<M: Machine>(
     alloc: Global,
-    function: &Function,
+    program: &Program<M>,
     budget: &Budget,
     start: Start,
     memory: &Option<ModelMemory>,
 ) -> Result<Judged, AllocError>
-    requires order { order_of function.now.image.now ≡ M.machine.endian }
-    requires readable { AreReadable M.machine.has_register (notes_of function.now.notes.now) }
-    requires lawful { HasLawfulRows (program_of_function M.machine function.now) }
+    requires lawful { HasLawfulRows (program_of program.now) }
     requires fit { IsFit M.form (written_of start) }
     requires choices { AreRising (written_of start).choices }
     requires sound { IsSoundMemory memory.now }
-    requires some { (r : questions.Reading) × IsRunBy (program_of_function M.machine function.now) M.form budget.now.unroll budget.now.points FailQuestion
+    requires some { (r : questions.Reading) × IsRunBy (program_of program.now) M.form budget.now.unroll budget.now.points FailQuestion
         (written_of start) (filler memory.now) (listed memory.now) r }
     ensures { IfOk result (λ j. (r : questions.Reading) →
-        IsRunBy (program_of_function M.machine function.now) M.form budget.now.unroll budget.now.points FailQuestion (written_of start) (filler memory.now)
-        (listed memory.now) r → IsShownAs (program_of_function M.machine function.now) M.form budget.now.unroll FailQuestion r j) }
+        IsRunBy (program_of program.now) M.form budget.now.unroll budget.now.points FailQuestion (written_of start) (filler memory.now)
+        (listed memory.now) r → IsShownAs (program_of program.now) M.form budget.now.unroll FailQuestion r j) }
 {
-    let traced = traced::<M>(alloc, function, budget, &start, memory)?;
+    let traced = traced::<M>(alloc, program, budget, &start, memory)?;
     match traced.ending {
         Ending::Failed { event, at, step } => Ok(Judged::Accepted {
             end: End::Failed { event, at, step },
@@ -158,24 +140,22 @@ fn failed<M: Machine>(
 /// The start of a run that makes one backward transfer too many, with the bytes that the require lines and the run read. The error is want of memory.
 fn turned<M: Machine>(
     alloc: Global,
-    function: &Function,
+    program: &Program<M>,
     budget: &Budget,
     start: Start,
     memory: &Option<ModelMemory>,
 ) -> Result<Judged, AllocError>
-    requires order { order_of function.now.image.now ≡ M.machine.endian }
-    requires readable { AreReadable M.machine.has_register (notes_of function.now.notes.now) }
-    requires lawful { HasLawfulRows (program_of_function M.machine function.now) }
+    requires lawful { HasLawfulRows (program_of program.now) }
     requires fit { IsFit M.form (written_of start) }
     requires choices { AreRising (written_of start).choices }
     requires sound { IsSoundMemory memory.now }
-    requires some { (r : questions.Reading) × IsRunBy (program_of_function M.machine function.now) M.form budget.now.unroll budget.now.points TurnQuestion
+    requires some { (r : questions.Reading) × IsRunBy (program_of program.now) M.form budget.now.unroll budget.now.points TurnQuestion
         (written_of start) (filler memory.now) (listed memory.now) r }
     ensures { IfOk result (λ j. (r : questions.Reading) →
-        IsRunBy (program_of_function M.machine function.now) M.form budget.now.unroll budget.now.points TurnQuestion (written_of start) (filler memory.now)
-        (listed memory.now) r → IsShownAs (program_of_function M.machine function.now) M.form budget.now.unroll TurnQuestion r j) }
+        IsRunBy (program_of program.now) M.form budget.now.unroll budget.now.points TurnQuestion (written_of start) (filler memory.now)
+        (listed memory.now) r → IsShownAs (program_of program.now) M.form budget.now.unroll TurnQuestion r j) }
 {
-    let traced = traced::<M>(alloc, function, budget, &start, memory)?;
+    let traced = traced::<M>(alloc, program, budget, &start, memory)?;
     match traced.ending {
         Ending::Turned { at, step } => Ok(Judged::Accepted {
             end: End::Turned { at, step },
@@ -206,41 +186,39 @@ fn run_start(
 /// The start that shows that a question is true of the reading of a model, with the end of its run. The error is want of memory.
 pub fn accept<M: Machine>(
     alloc: Global,
-    function: &Function,
+    program: &Program<M>,
     budget: &Budget,
     passive: &Passive,
     kind: Kind,
     model: &Model,
     reading: &Reading,
 ) -> Result<Judged, AllocError>
-    requires order { order_of function.now.image.now ≡ M.machine.endian }
-    requires readable { AreReadable M.machine.has_register (notes_of function.now.notes.now) }
-    requires ground { IsGround (program_of_function M.machine function.now) budget.now.unroll M.form (unrolled_of passive.now.unrolled.now) }
+    requires ground { IsGround (program_of program.now) budget.now.unroll M.form (unrolled_of passive.now.unrolled.now) }
     requires points { length (unrolled_of passive.now.unrolled.now).points ≤ budget.now.points }
     requires askable { IsAskable passive.now }
     requires sound { IsSound M.form (length (unrolled_of passive.now.unrolled.now).points) model.now }
     requires count { length reading.now.choices.items ≡ length (unrolled_of passive.now.unrolled.now).points }
     requires few { (i : ℕ) → slice_index reading.now.choices.items i ≤ 3 }
-    requires some { (r : questions.Reading) × IsTrulyOf (program_of_function M.machine function.now) M.form budget.now.unroll (kind_of kind)
+    requires some { (r : questions.Reading) × IsTrulyOf (program_of program.now) M.form budget.now.unroll (kind_of kind)
         (unrolled_of passive.now.unrolled.now) model.now (reading_of reading.now) r }
-    ensures { IfOk result (λ j. (r : questions.Reading) → IsTrulyOf (program_of_function M.machine function.now) M.form budget.now.unroll (kind_of kind)
+    ensures { IfOk result (λ j. (r : questions.Reading) → IsTrulyOf (program_of program.now) M.form budget.now.unroll (kind_of kind)
         (unrolled_of passive.now.unrolled.now) model.now (reading_of reading.now) r →
-        IsShownAs (program_of_function M.machine function.now) M.form budget.now.unroll (kind_of kind) r j) }
+        IsShownAs (program_of program.now) M.form budget.now.unroll (kind_of kind) r j) }
 {
     match kind {
         Kind::Entry => {
             let start = model_start(alloc, model, Vec::new(alloc))?;
-            let judged = entered::<M>(alloc, function, start, &model.memory)?;
+            let judged = entered::<M>(alloc, program, start, &model.memory)?;
             Ok(judged)
         }
         Kind::Fail => {
             let start = run_start(alloc, passive, model, reading)?;
-            let judged = failed::<M>(alloc, function, budget, start, &model.memory)?;
+            let judged = failed::<M>(alloc, program, budget, start, &model.memory)?;
             Ok(judged)
         }
         Kind::Turn => {
             let start = run_start(alloc, passive, model, reading)?;
-            let judged = turned::<M>(alloc, function, budget, start, &model.memory)?;
+            let judged = turned::<M>(alloc, program, budget, start, &model.memory)?;
             Ok(judged)
         }
     }

@@ -1,13 +1,10 @@
 //! The answer of an outside solver, judged.
 ghost use Rattle.std.specs.Prelude.{◌≡◌, ℕ, ◌≤◌, ◌<◌, ◌^◌, length, slice_index, IfOk};
 ghost use Rattle.clause_spec.specs.Checks.{text_limit};
-ghost use Rattle.bilv_spec.specs.Files.{order_of};
 ghost use Rattle.bilv_spec.specs.Questions.{Reading};
-ghost use Rattle.notes_value.specs.NoteViews.{notes_of};
-ghost use Rattle.notes_value.specs.Reads.{AreReadable};
 ghost use Rattle.start_value.specs.Starts.{layout_of};
 ghost use Rattle.question_form.specs.Views.{kind_of, unrolled_of};
-ghost use Rattle.verdict.specs.Functions.{program_of_function};
+ghost use Rattle.program_value.specs.Programs.{program_of};
 ghost use Rattle.verdict.specs.Grounds.{IsGround};
 ghost use Rattle.verdict.specs.Rounds.{IsAskable};
 ghost use Rattle.model_verdict.specs.Judgements.{IsJudged};
@@ -23,10 +20,11 @@ use crate::readings::model_reading;
 use crate::truth::is_true;
 use machine_law::Machine;
 use model_text::{Model, ModelFault, read_model};
+use program_value::Program;
 use question_form::{Kind, Passive};
 use smtlib_print::numbers;
 use std::alloc::{AllocError, Global};
-use verdict::{Budget, Function};
+use verdict::Budget;
 
 /// Registers are words, and a byte is a byte, as their types say.
 fn are_in_range(registers: &[u32], byte: u8)
@@ -37,7 +35,7 @@ fn are_in_range(registers: &[u32], byte: u8)
 /// Judges a model, where the points have these numbers by their places, and these choices are declared. The error is want of memory.
 fn judge_model<M: Machine>(
     alloc: Global,
-    function: &Function,
+    program: &Program<M>,
     budget: &Budget,
     passive: &Passive,
     kind: Kind,
@@ -45,9 +43,7 @@ fn judge_model<M: Machine>(
     drawn: &[bool],
     model: &Model,
 ) -> Result<Judged, AllocError>
-    requires order { order_of function.now.image.now ≡ M.machine.endian }
-    requires readable { AreReadable M.machine.has_register (notes_of function.now.notes.now) }
-    requires ground { IsGround (program_of_function M.machine function.now) budget.now.unroll M.form (unrolled_of passive.now.unrolled.now) }
+    requires ground { IsGround (program_of program.now) budget.now.unroll M.form (unrolled_of passive.now.unrolled.now) }
     requires points { length (unrolled_of passive.now.unrolled.now).points ≤ budget.now.points }
     requires askable { IsAskable passive.now }
     requires form { layout_of passive.now.unrolled.now.form ≡ M.form }
@@ -59,17 +55,17 @@ fn judge_model<M: Machine>(
         TakesNumbers (unrolled_of passive.now.unrolled.now) numbers.now model.now r }
     ensures { IfOk result (λ j. (r : Reading) → IsModelled (unrolled_of passive.now.unrolled.now) M.form model.now r →
         TakesNumbers (unrolled_of passive.now.unrolled.now) numbers.now model.now r →
-        IsFound (program_of_function M.machine function.now) M.form budget.now.unroll (kind_of kind) r j) }
+        IsFound (program_of program.now) M.form budget.now.unroll (kind_of kind) r j) }
 {
     let reading = model_reading(alloc, passive.unrolled, numbers, drawn, model)?;
     if !is_true(alloc, passive, kind, &model.memory, &reading)? {
         return Ok(Judged::Untrue);
     }
-    let judged = accept::<M>(alloc, function, budget, passive, kind, model, &reading)?;
+    let judged = accept::<M>(alloc, program, budget, passive, kind, model, &reading)?;
     Ok(judged)
 }
 
-/// Judges the answer of an outside solver to a question about a function, whose passive program this is: its first fault; else whether the question is true of
+/// Judges the answer of an outside solver to a question about a program, whose passive program this is: its first fault; else whether the question is true of
 /// the reading that it gives; and then the start that shows it, with the end of its run. Its time is that of the text, of the question's terms and of the run,
 /// and n log n of the bytes that the answer's memory lists; its memory is in proportion to the text and to the terms.
 ///
@@ -78,20 +74,18 @@ fn judge_model<M: Machine>(
 /// Want of memory, or of numbers for points.
 pub fn judge<M: Machine>(
     alloc: Global,
-    function: &Function,
+    program: &Program<M>,
     budget: &Budget,
     passive: &Passive,
     kind: Kind,
     text: &[u8],
 ) -> Result<Judged, AllocError>
-    requires order { order_of function.now.image.now ≡ M.machine.endian }
-    requires readable { AreReadable M.machine.has_register (notes_of function.now.notes.now) }
-    requires ground { IsGround (program_of_function M.machine function.now) budget.now.unroll M.form (unrolled_of passive.now.unrolled.now) }
+    requires ground { IsGround (program_of program.now) budget.now.unroll M.form (unrolled_of passive.now.unrolled.now) }
     requires points { length (unrolled_of passive.now.unrolled.now).points ≤ budget.now.points }
     requires askable { IsAskable passive.now }
     requires form { layout_of passive.now.unrolled.now.form ≡ M.form }
     requires text { length text.now ≤ text_limit }
-    ensures { IfOk result (λ j. IsJudged (program_of_function M.machine function.now) M.form budget.now.unroll (kind_of kind) text.now j) }
+    ensures { IfOk result (λ j. IsJudged (program_of program.now) M.form budget.now.unroll (kind_of kind) text.now j) }
 {
     let unrolled = passive.unrolled;
     let numbers = numbers(alloc, unrolled)?;
@@ -100,7 +94,7 @@ pub fn judge<M: Machine>(
         Ok(model) => {
             are_in_range(&model.registers, fill_of(&model.memory));
             let judged = judge_model::<M>(
-                alloc, function, budget, passive, kind, &numbers, &drawn, &model,
+                alloc, program, budget, passive, kind, &numbers, &drawn, &model,
             )?;
             Ok(judged)
         }

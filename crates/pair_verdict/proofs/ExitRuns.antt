@@ -2,18 +2,14 @@
 use Rattle.std.proofs.Common.{◌≡◌, ℕ, ◌+◌, ◌-◌, ◌^◌, ◌<◌, arith, Some}
 use Rattle.word_spec.specs.State.{State}
 use Rattle.bilv_spec.specs.Answers.{IsWithin, start_in}
-use Rattle.bilv_spec.specs.Files.{program_of}
 use Rattle.bilv_spec.specs.PointLaws.{HasLawfulRows, ReadsMemory}
 use Rattle.bilv_spec.specs.Reports.{found}
 use Rattle.bilv_spec.specs.Run.{Program}
 use Rattle.bilv_spec.specs.Verdict as verdicts
 use Rattle.bilv_spec.specs.Verdict.{IsRight, IsStart}
 use Rattle.machine_spec.specs.Endings as runs
-use Rattle.machine_spec.specs.Machine.{Machine}
-use Rattle.machine_spec.specs.MachineLaws.{IsLawfulMachine}
 use Rattle.machine_spec.specs.StateText as texts
-use Rattle.notes_value.specs.NoteViews.{notes_of}
-use Rattle.pair_sides.specs.Sides.{IsSided, machine_in, program_of_side}
+use Rattle.pair_sides.specs.Sides.{IsSided, program_of_side}
 use Rattle.pair_sides.specs.declared.sides.Sided.{Sided}
 use Rattle.pair_spec.specs.Pairs.{ExitsIn}
 use Rattle.start_value.specs.Starts.{layout_of, written_of}
@@ -25,31 +21,29 @@ use Rattle.table_run.specs.declared.ending.Ending.TheVariants as ending
 use Rattle.verdict.specs.Verdicts.{budget_of}
 use Rattle.call_form.specs.declared.budget.Budget.{Budget}
 use Rattle.pair_verdict.proofs.ExitSteps as steps
-use Rattle.pair_verdict.proofs.MachineOfSide.{to_side, rows_lawful, reads_memory}
+use Rattle.pair_verdict.proofs.LawfulSides.{side_reads, side_rows}
+use Rattle.pair_verdict.proofs.MachineOfSide.{to_side}
 
-module _ (s : Sided) (m : Machine) (form : texts.Layout) (machine : machine_in s.layout ≡ m) (is_form : layout_of s.layout ≡ form) (sided : IsSided s)
+module _ (s : Sided) (here : Program) (form : texts.Layout) (is_here : here ≡ program_of_side s) (is_form : layout_of s.layout ≡ form) (sided : IsSided s)
     (start : Start) where
-  abbrev here : Program
-  here = program_of m s.image.now (notes_of s.notes.now) s.entry
-
   abbrev begins : Program → texts.Layout → runs.Start
   begins p f = start_in p f (written_of start)
 
   abbrev side_start : runs.Start
   side_start = begins (program_of_side s) (layout_of s.layout)
 
-  module _ (lawful : IsLawfulMachine m) (b : Budget) (within : IsWithin (program_of_side s) (budget_of b))
+  module _ (b : Budget) (within : IsWithin (program_of_side s) (budget_of b))
       (holds : IsRight (program_of_side s) b.unroll verdicts.Holds) (is : IsStart (program_of_side s) side_start) (e : Ending)
       (ends : found_of e ≡ found here (Some b.unroll) (begins here form) (b.points - 1)) where
     lawful_rows : HasLawfulRows (program_of_side s)
-    lawful_rows = to_side s m form machine is_form sided (λ (p : Program) (f : texts.Layout). HasLawfulRows p) (rows_lawful s m form machine is_form sided lawful)
+    lawful_rows = side_rows s sided
 
     memory : ReadsMemory (program_of_side s)
-    memory = to_side s m form machine is_form sided (λ (p : Program) (f : texts.Layout). ReadsMemory p) (reads_memory s m form machine is_form sided lawful)
+    memory = side_reads s
 
     finds : found_of e ≡ found (program_of_side s) (Some b.unroll) side_start (b.points - 1)
     finds =
-        to_side s m form machine is_form sided
+        to_side s here form is_here is_form
         (λ (p : Program) (f : texts.Layout). found_of e ≡ found p (Some b.unroll) (begins p f) (b.points - 1)) ends
 
     pub ends_by_exit : ((at n : ℕ) → e ≡ ending.Exit at n → ⊥) → ⊥
@@ -72,10 +66,10 @@ module _ (s : Sided) (m : Machine) (form : texts.Layout) (machine : machine_in s
     found_out t is = (
       out.0,
       steps.exits_found (program_of_side s) k side_start out.0 n out.1 out.2 t
-          (to_side s m form machine is_form sided (λ (p : Program) (f : texts.Layout). IsExit p (begins p f) n t) is),
+          (to_side s here form is_here is_form (λ (p : Program) (f : texts.Layout). IsExit p (begins p f) n t) is),
     )
 
     pub is_found : IsNoExit here (begins here form) n → ⊥
     is_found none =
         steps.never_none (program_of_side s) k side_start out.0 n out.1 out.2
-        (to_side s m form machine is_form sided (λ (p : Program) (f : texts.Layout). IsNoExit p (begins p f) n) none)
+        (to_side s here form is_here is_form (λ (p : Program) (f : texts.Layout). IsNoExit p (begins p f) n) none)

@@ -139,15 +139,8 @@ fn exit_step<M: Machine>(
     ensures exits { IfOk result (λ n. (at : ℕ) × (s : State) × ExitsIn (program_of_side side.now) budget.now.unroll
         (start_in (program_of_side side.now) (layout_of side.now.layout) (written_of start.now)) at n s) }
 {
-    match run::<M>(
-        alloc,
-        side.image,
-        side.notes,
-        side.entry,
-        start,
-        Some(budget.unroll),
-        budget.points,
-    )? {
+    let program = side.program::<M>();
+    match run::<M>(alloc, &program, start, Some(budget.unroll), budget.points)? {
         Ending::Exit { step, .. } => Ok(step),
         _ => unreachable!(),
     }
@@ -174,7 +167,8 @@ fn exit_by<M: Machine>(
         (start_in (program_of_side side.now) (layout_of side.now.layout) (written_of start.now)) second (links_of links.now)) }
 {
     let step = exit_step::<M>(alloc, side, budget, start)?;
-    match exit_state::<M>(alloc, side.image, side.notes, side.entry, start, step)? {
+    let program = side.program::<M>();
+    match exit_state::<M>(alloc, &program, start, step)? {
         Some(state) => {
             let words = exit_words(alloc, &state, links, second)?;
             Ok(Reached { step, words })

@@ -7,8 +7,8 @@ use verdict::Budget;
 /// Two functions that are compared, with the links between them and the budgets.
 #[derive(Clone, Copy)]
 pub struct Pair<'a> {
-    pub first: &'a Sided<'a, 'a>,
-    pub second: &'a Sided<'a, 'a>,
+    pub first: &'a Sided<'a>,
+    pub second: &'a Sided<'a>,
     pub links: &'a [Link],
     pub budget: &'a Budget,
 }

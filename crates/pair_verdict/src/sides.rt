@@ -24,7 +24,7 @@ use rv_lift::Rv32;
 use start_value::{Layout, Profile};
 use std::alloc::{AllocError, Global};
 use unroller::unroll_asking;
-use verdict::{Budget, Function, Verdict, judge_unrolled, unroll_within};
+use verdict::{Budget, Verdict, judge_unrolled, unroll_within};
 
 /// What one of two functions comes to: it holds, or its verdict is another one.
 #[derive(Drop)]
@@ -36,7 +36,7 @@ pub enum SideVerdict {
 /// The unrolled program of a side, on its machine.
 fn unroll_by<'a, M: Machine>(
     alloc: Global,
-    side: &Sided<'a, 'a>,
+    side: &Sided<'a>,
     budget: &Budget,
 ) -> Result<Unrolled<'a>, PointsFault>
     requires machine { machine_in side.now.layout ≡ M.machine }
@@ -45,8 +45,8 @@ fn unroll_by<'a, M: Machine>(
     ensures unrolled { IfOk result (IsUnrolledOf (program_of_side side.now) (layout_of side.now.layout) (budget_of budget.now)) }
     ensures more { IfErr result (IsTooMany (program_of_side side.now) budget.now.unroll budget.now.points) }
 {
-    let unrolled = unroll_within::<M>(alloc, side.image, side.notes, side.entry, budget)?;
-    Ok(unrolled)
+    let program = side.program::<M>();
+    unroll_within::<M>(alloc, &program, budget)
 }
 
 /// The unrolled program of a side.
@@ -56,7 +56,7 @@ fn unroll_by<'a, M: Machine>(
 /// `TooMany` with one point more than the budget where there are more points; out of memory.
 pub fn unroll_side<'a>(
     alloc: Global,
-    side: &Sided<'a, 'a>,
+    side: &Sided<'a>,
     budget: &Budget,
 ) -> Result<Unrolled<'a>, PointsFault>
     requires sided { IsSided side.now }
@@ -79,12 +79,8 @@ fn verdict_by<M: Machine>(
     requires unrolled { IsUnrolledOf (program_of_side side.now) (layout_of side.now.layout) (budget_of budget.now) unrolled.now }
     ensures { IfOk result (λ v. IsVerdict (program_of_side side.now) (layout_of side.now.layout) budget.now v) }
 {
-    let function = Function {
-        image: side.image,
-        notes: side.notes,
-        entry: side.entry,
-    };
-    let verdict = judge_unrolled::<M>(alloc, &function, budget, unrolled)?;
+    let program = side.program::<M>();
+    let verdict = judge_unrolled::<M>(alloc, &program, budget, unrolled)?;
     Ok(verdict)
 }
 
@@ -128,7 +124,7 @@ pub fn judge_side(
 /// The unrolled program of a side in which the flags that links compare are asked for at the exit, on its machine. There are no more points than the budget.
 fn unroll_asked_by<'a, M: Machine>(
     alloc: Global,
-    side: &Sided<'a, 'a>,
+    side: &Sided<'a>,
     links: &[Link],
     second: bool,
     budget: &Budget,
@@ -140,18 +136,11 @@ fn unroll_asked_by<'a, M: Machine>(
     ensures unrolled { IfOk result (IsUnrolledOf (asking second (links_of links.now) (program_of_side side.now)) (layout_of side.now.layout) (budget_of budget.now)) }
     ensures form { IfOk result (λ u. layout_of u.form ≡ layout_of side.now.layout) }
 {
-    let graph = descend::<M>(alloc, side.image, side.notes, side.entry)?;
+    let program = side.program::<M>();
+    program.image.bytes();
+    let graph = descend::<M>(alloc, &program)?;
     let out = flags_asked(links, second);
-    match unroll_asking::<M>(
-        alloc,
-        &graph,
-        side.image,
-        side.notes,
-        side.entry,
-        out,
-        budget.unroll,
-        budget.points,
-    ) {
+    match unroll_asking::<M>(alloc, &graph, &program, out, budget.unroll, budget.points) {
         Ok(unrolled) => Ok(unrolled),
         Err(PointsFault::TooMany { .. }) => unreachable!(),
         Err(PointsFault::Memory) => Err(AllocError),
@@ -162,7 +151,7 @@ fn unroll_asked_by<'a, M: Machine>(
 /// memory.
 pub fn unroll_asked<'a>(
     alloc: Global,
-    side: &Sided<'a, 'a>,
+    side: &Sided<'a>,
     links: &[Link],
     second: bool,
     budget: &Budget,

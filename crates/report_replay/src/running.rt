@@ -1,9 +1,9 @@
 //! The run of a named ending.
-ghost use Rattle.std.specs.Prelude.{◌≡◌, ℕ, ◌+◌, ◌≤◌, IfOk};
-ghost use Rattle.bilv_spec.specs.Run.{Program};
+ghost use Rattle.std.specs.Prelude.{◌≡◌, ◌+◌, ◌≤◌, IfOk};
+ghost use Rattle.bilv_spec.specs.Run as tables;
 ghost use Rattle.machine_spec.specs.Endings.{Start, named_step};
 ghost use Rattle.bilv_spec.specs.EntryFaults.{IsEntryStateFault};
-ghost use Rattle.bilv_spec.specs.Files.{order_of, program_of};
+ghost use Rattle.program_value.specs.Programs.{program_of};
 ghost use Rattle.bilv_spec.specs.Points.{is_known_at};
 ghost use Rattle.machine_spec.specs.StateText.{IsWritten, last_step};
 ghost use Rattle.machine_spec.specs.Endings as reports;
@@ -12,14 +12,11 @@ ghost use Rattle.bilv_spec.specs.Answers.{start_in};
 ghost use Rattle.bilv_spec.specs.Replays.{run_answer, bound_of};
 ghost use Rattle.start_value.specs.Starts.{written_of};
 ghost use Rattle.state_text.specs.Starts.{named_of};
-ghost use Rattle.notes_value.specs.NoteViews.{notes_of};
-ghost use Rattle.notes_value.specs.Reads.{AreReadable};
 ghost use Rattle.table_run.specs.Endings.{fault_of, IsLinesFault};
 
 use crate::texts::{Replay, compared, false_require, unaligned};
-use elf32_reader::Image;
 use machine_law::Machine;
-use notes_value::Notes;
+use program_value::Program;
 use state_text::{NamedEnding, StateText};
 use std::alloc::{AllocError, Global};
 use table_run::{EntryFault, lines_ok, run, start_state};
@@ -47,7 +44,7 @@ fn step_of(named: NamedEnding) -> u64
 /// The answer to a start that has a fault. The error is want of memory.
 fn faulted(alloc: Global, fault: EntryFault) -> Result<Replay, AllocError>
     requires { IsLinesFault fault }
-    ensures { (p : Program) (named : reports.NamedEnding) (start : Start) → IsEntryStateFault p start.state (fault_of fault) →
+    ensures { (p : tables.Program) (named : reports.NamedEnding) (start : Start) → IsEntryStateFault p start.state (fault_of fault) →
         IfOk result (λ r. plain_answer r.status r.text.items ≡ run_answer p named start) }
 {
     match fault {
@@ -60,25 +57,21 @@ fn faulted(alloc: Global, fault: EntryFault) -> Result<Replay, AllocError>
 /// The answer to a named ending with a start. The error is want of memory.
 pub(crate) fn run_named<M: Machine>(
     alloc: Global,
-    image: &Image,
-    notes: &Notes,
-    entry: u32,
+    program: &Program<M>,
     text: &StateText,
 ) -> Result<Replay, AllocError>
-    requires order { order_of image.now ≡ M.machine.endian }
-    requires readable { AreReadable M.machine.has_register (notes_of notes.now) }
-    requires start { IsWritten M.form (is_known_at (program_of M.machine image.now (notes_of notes.now) entry)) (written_of text.now.start) }
+    requires start { IsWritten M.form (is_known_at (program_of program.now)) (written_of text.now.start) }
     requires step { named_step (named_of text.now.named) ≤ last_step }
     ensures { IfOk result (λ r. plain_answer r.status r.text.items
-        ≡ run_answer (program_of M.machine image.now (notes_of notes.now) entry) (named_of text.now.named)
-        (start_in (program_of M.machine image.now (notes_of notes.now) entry) M.form (written_of text.now.start))) }
+        ≡ run_answer (program_of program.now) (named_of text.now.named)
+        (start_in (program_of program.now) M.form (written_of text.now.start))) }
 {
-    let state = start_state::<M>(alloc, image, notes, entry, &text.start)?;
-    if let Err(fault) = lines_ok::<M>(image, notes, &state) {
+    let state = start_state::<M>(alloc, program, &text.start)?;
+    if let Err(fault) = lines_ok::<M>(program, &state) {
         return faulted(alloc, fault);
     }
     let named = text.named;
     let limit = step_of(named) + 1;
-    let ending = run::<M>(alloc, image, notes, entry, &text.start, bound(named), limit)?;
+    let ending = run::<M>(alloc, program, &text.start, bound(named), limit)?;
     compared(alloc, named, ending)
 }

@@ -2,10 +2,9 @@
 use Rattle.std.specs.Prelude.{ℕ, is_some, ◌≡◌, ◌<◌, ◌≤◌, ◌^◌, ◌==◌, ◌&&◌, Bool, true, false, not, List, [], ◌∷◌, Option, Some, None, All, IfSome, filter, length, map, nat_eq, if◌then◌else◌}
 use Rattle.std.specs.List.{list_any}
 use Rattle.std.specs.Option.{option_map}
-use Rattle.word_spec.specs.Memory.{Endian, byte_in, endian}
+use Rattle.word_spec.specs.Memory.{Endian, byte_in}
 use Rattle.word_spec.specs.RowFiles.{from_to}
 use Rattle.word_spec.specs.State.{State, IsState}
-use Rattle.machine_spec.specs.Machine.{Machine}
 use Rattle.machine_spec.specs.MachineLaws.{with_memory}
 use Rattle.machine_spec.specs.StateText.{Layout, AreRising}
 use Rattle.bilv_spec.specs.Notes.{NoteLine, FixedRange}
@@ -17,12 +16,11 @@ use Rattle.frame_spec.specs.FrameRuns as runs
 use Rattle.frame_spec.specs.FrameRuns.{FrameStep, Run, contract_step, frame_step, returns_by, state_after}
 use Rattle.frame_spec.specs.FrameReports.{WrittenCall, given_by, value_in}
 use Rattle.frame_texts_spec.specs.CallReplays.{BlockCause, WrongAt, BreaksLine, is_block_of, none_there, wrong_by}
-use Rattle.notes_value.specs.NoteViews.{notes_of}
 use Rattle.notes_value.specs.FrameViews.{contract_of, is_in}
-use Rattle.notes_value.specs.Reads.{AreReadable, IsReadableContract}
+use Rattle.notes_value.specs.Reads.{IsReadableContract}
 use Rattle.notes_index.specs.Indexed.{AreIndexed}
 use Rattle.state_text.specs.Starts.{event_of}
-use Rattle.table_run.specs.Programs.{program_of}
+use Rattle.program_value.specs.Programs.{program_of}
 use Rattle.table_run.specs.FrameEnds.{HasKept}
 use Rattle.table_run.specs.Spans.{bytes_of}
 use Rattle.table_run.specs.declared.called_turns.Stand.{Stand}
@@ -70,20 +68,18 @@ called_frame p stepped own = record { program = program_in p own; invariants = [
 abbrev pub own_of : Option Own → Option Contract
 own_of own = option_map (λ o. contract_of o.contract.now) own
 
-abbrev pub frame_in : Machine → CallFrame → Frame
-frame_in m f = called_frame (program_of m f.program) (map contract_of f.stepped.now) (own_of f.own)
+abbrev pub frame_in : {M I S : _} {m : _} {v : _} → CallFrame M I S m v → Frame
+frame_in f = called_frame (program_of f.program) (map contract_of f.stepped.now) (own_of f.own)
 
 -- the bytes that the frame's contract may write are evaluated in the state where its function begins
 abbrev pub IsOwnAt : Endian → Option Own → (entry : State) → Type 0
 IsOwnAt e own entry = IfSome own (λ o. bytes_of o.spans.now ≡ written e (contract_of o.contract.now).writes entry)
 
--- what the code has of a frame of a machine: its byte order, an index of its notes, and lines that can be read
-pub record IsRunnable (m : Machine) (has_register : ℕ → Bool) (f : CallFrame) : Type 0 where
-  pub order : endian f.program.big ≡ m.endian
-  pub readable : AreReadable has_register (notes_of f.program.notes.now)
+-- what the code has of a frame: an index of its notes, and contracts that can be read
+pub record IsRunnable {M I S : _} {m : _} {v : _} (f : CallFrame M I S m v) : Type 0 where
   pub index : AreIndexed f.program.notes.now f.index.now
-  pub stepped : All (λ x. IsReadableContract has_register (contract_of x)) f.stepped.now
-  pub own : IfSome f.own (λ o. IsReadableContract has_register (contract_of o.contract.now))
+  pub stepped : All (λ x. IsReadableContract v.has_register (contract_of x)) f.stepped.now
+  pub own : IfSome f.own (λ o. IsReadableContract v.has_register (contract_of o.contract.now))
 
 -- ---- what a contract may change
 
@@ -232,11 +228,11 @@ IsTurnEnd (end.Breaks line) p state stack n x wrong = (x ≡ runs.Breaks line) �
 IsTurnEnd end.NoCall p state stack n x wrong = wrong ≡ Some (WrongAt n)
 
 -- the return from a contract step, of a block that is its own and of bytes that are not kept
-abbrev pub IsReturn : Machine → CallFrame → Contract → WrittenCall → CalledStepEnd → (old : State) → (stack : List ℕ) → (new : State) → (after : List ℕ) →
-    Type 0
-IsReturn m f x c end old stack new after =
-    (to : ℕ) (below : List ℕ) → stack ≡ to ∷ below → HasKept (program_of m f.program) old →
-    list_any (λ a. is_kept ((program_of m f.program).loaded a)) (written m.endian x.writes old) ≡ false →
-    IsContractEnd end (program_of m f.program) new after
-    (returns_by (false_line m.endian x.gives (state_after (frame_in m f) x old to (given_by (changed_by x) c)) old) (frame_in m f)
-    (record { state = old; stack = stack }) (record { state = state_after (frame_in m f) x old to (given_by (changed_by x) c); stack = below })) true
+abbrev pub IsReturn : {M I S : _} {m : _} {v : _} → CallFrame M I S m v → Contract → WrittenCall → CalledStepEnd → (old : State) → (stack : List ℕ) →
+    (new : State) → (after : List ℕ) → Type 0
+IsReturn {m = m} f x c end old stack new after =
+    (to : ℕ) (below : List ℕ) → stack ≡ to ∷ below → HasKept (program_of f.program) old →
+    list_any (λ a. is_kept ((program_of f.program).loaded a)) (written m.machine.endian x.writes old) ≡ false →
+    IsContractEnd end (program_of f.program) new after
+    (returns_by (false_line m.machine.endian x.gives (state_after (frame_in f) x old to (given_by (changed_by x) c)) old) (frame_in f)
+    (record { state = old; stack = stack }) (record { state = state_after (frame_in f) x old to (given_by (changed_by x) c); stack = below })) true

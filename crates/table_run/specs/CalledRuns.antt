@@ -15,10 +15,10 @@ use Rattle.frame_spec.specs.FrameVerdict.{Whole}
 use Rattle.frame_spec.specs.FrameReports.{WrittenCall, gifts, shown_start}
 use Rattle.frame_texts_spec.specs.FrameTexts.{first_of}
 use Rattle.frame_texts_spec.specs.CallReplays.{BlockCause, WrongAt, BreaksLine, block_after, first_wrong, has_called}
-use Rattle.notes_value.specs.NoteViews.{notes_of}
 use Rattle.notes_value.specs.FrameViews.{contract_of}
 use Rattle.table_run.specs.CalledFrames.{called_event_of, changed_by}
-use Rattle.table_run.specs.declared.called.RankedFrame.{RankedFrame}
+use Rattle.program_value.specs.declared.frame.RankedFrame.{RankedFrame}
+use Rattle.program_value.specs.Programs.{program_of}
 use Rattle.table_run.specs.declared.ending.CalledEnding.{CalledEnding}
 use Rattle.table_run.specs.declared.ending.CalledEnding.TheVariants as ending
 use Rattle.table_run.specs.declared.ending.CalledRun.{CalledRun}
@@ -28,19 +28,19 @@ use Rattle.table_run.specs.declared.ending.CalledStepEnd.TheVariants as end
 -- ---- frames
 
 -- the program of a frame's file, with its contracts by their ranks; and the frame of its rank
-abbrev pub whole_in : Machine → RankedFrame → Whole
-whole_in m f = record {
-  program = files.program_of m f.image.now (notes_of f.notes.now) f.entry;
+abbrev pub whole_in : {M I S : _} {m : _} {v : _} → RankedFrame M I S m v → Whole
+whole_in f = record {
+  program = program_of f.program;
   invariants = [];
   contracts = map contract_of f.contracts.now;
 }
 
-abbrev pub frame_of_rank : Machine → RankedFrame → Frame
-frame_of_rank m f = verdict.frame_of (whole_in m f) f.rank
+abbrev pub frame_of_rank : {M I S : _} {m : _} {v : _} → RankedFrame M I S m v → Frame
+frame_of_rank f = verdict.frame_of (whole_in f) f.rank
 
 -- the start that is shown: that of an entry state, with what contract steps are given
-abbrev pub start_called : Machine → Layout → RankedFrame → Written → List WrittenCall → Start
-start_called m form f w calls = shown_start (whole_in m f) (frame_of_rank m f) form (record { start = w; head = None; calls = calls })
+abbrev pub start_called : {M I S : _} {m : _} {v : _} → Layout → RankedFrame M I S m v → Written → List WrittenCall → Start
+start_called form f w calls = shown_start (whole_in f) (frame_of_rank f) form (record { start = w; head = None; calls = calls })
 
 -- ---- starts
 

@@ -1,4 +1,3 @@
-pub mod Programs
 pub mod Endings
 pub mod Known
 pub mod Asserts

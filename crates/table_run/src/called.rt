@@ -1,6 +1,5 @@
 //! A run of a frame that steps over contracts.
-ghost use Rattle.std.specs.Prelude.{◌≡◌, ℕ, ◌≤◌, ◌<◌, ◌+◌, ◌-◌, ◌||◌, All, AllPairs, IfOk, IfSome, List, Some, length, map, slice_get, take};
-ghost use Rattle.bilv_spec.specs.Files.{order_of};
+ghost use Rattle.std.specs.Prelude.{◌≡◌, ℕ, ◌≤◌, ◌<◌, ◌+◌, ◌-◌, ◌||◌, All, AllPairs, IfOk, IfSome, List, Some, map, slice_get, take};
 ghost use Rattle.bilv_spec.specs.PointLaws.{HasLawfulRows};
 ghost use Rattle.bilv_spec.specs.Points.{is_known_at};
 ghost use Rattle.bilv_spec.specs.Reports as reports;
@@ -9,14 +8,13 @@ ghost use Rattle.frame_spec.specs.FrameFound.{found};
 ghost use Rattle.frame_spec.specs.FrameReports.{IsWrittenCall, WrittenCall};
 ghost use Rattle.frame_texts_spec.specs.CallReplays.{block_after, has_called};
 ghost use Rattle.start_value.specs.Starts.{written_of};
-ghost use Rattle.notes_value.specs.NoteViews.{notes_of};
 ghost use Rattle.notes_value.specs.FrameViews.{contract_of};
-ghost use Rattle.notes_value.specs.Reads.{AreReadable, IsReadableContract};
+ghost use Rattle.notes_value.specs.Reads.{IsReadableContract};
 ghost use Rattle.state_text.specs.Starts.{written_call_of};
 ghost use Rattle.word_spec.specs.Memory as memory;
 ghost use Rattle.frame_spec.specs.Frames.{written};
 ghost use Rattle.table_run.specs.Spans.{bytes_of};
-ghost use Rattle.table_run.specs.Programs.{program_of};
+ghost use Rattle.program_value.specs.Programs.{program_of};
 ghost use Rattle.table_run.specs.FrameEnds.{HasKept};
 ghost use Rattle.table_run.specs.CalledFrames.{IsBlock, IsOwnAt, IsRunnable, called_frame, frame_in, own_of, is_contract, next_of};
 ghost use Rattle.table_run.specs.CalledRuns.{AreChanged, IsEnded, IsFoundAs, IsLast, IsRun, called_start, cause_of, cause_within, frame_of_rank, start_called, whole_in};
@@ -27,28 +25,16 @@ use crate::choices::choice_at;
 use crate::ending::{CalledEnding, CalledRun, CalledStepEnd};
 use crate::frame::{CallFrame, Own};
 use crate::memory::memory_given;
-use crate::program::Program;
 use crate::runs::{Limits, next_turns, start_state, turns_within};
 use crate::spans::{Span, writable};
 use byte_mem::View;
-use elf32_reader::Image;
 use machine_law::Machine;
 use notes_index::index_of;
-use notes_value::{Contract, Notes};
+use notes_value::Contract;
+use program_value::RankedFrame;
 use start_value::Start;
 use state_text::CallState;
 use std::alloc::{AllocError, Global};
-
-/// A frame of a file and of notes with contracts, which are in the order of their ranks: that of the contract of a rank, whose calls step over the contracts of
-/// lower ranks, or, with as many as there are contracts for its rank, that of the function at `entry`, whose calls step over all contracts.
-#[derive(Clone, Copy)]
-pub struct RankedFrame<'a, 'b> {
-    pub image: &'a Image<'b>,
-    pub notes: &'a Notes,
-    pub contracts: &'a [Contract],
-    pub entry: u32,
-    pub rank: usize,
-}
 
 /// An ending at a step, or that of the first block after it.
 fn ended(calls: &[CallState], step: u64, called: bool, ending: CalledEnding) -> CalledRun
@@ -118,24 +104,24 @@ fn calls_here(called: bool, stand: Stand) -> bool
 /// What the run of a frame from an entry state comes to within its limits, with the blocks of contract steps. The error is want of memory.
 fn follow<M: Machine>(
     alloc: Global,
-    frame: &CallFrame,
+    frame: &CallFrame<M>,
     entry: &M::State,
     mut state: M::State,
     choices: &[(u64, u8)],
     calls: &[CallState],
     limits: Limits,
 ) -> Result<CalledRun, AllocError>
-    requires frame { IsRunnable M.machine M.State.has_register frame.now }
-    requires lawful { HasLawfulRows (program_of M.machine frame.now.program) }
+    requires frame { IsRunnable frame.now }
+    requires lawful { HasLawfulRows (program_of frame.now.program) }
     requires own { IsOwnAt M.machine.endian frame.now.own (M.State.view entry.now) }
-    requires kept { HasKept (program_of M.machine frame.now.program) (M.State.view entry.now) }
+    requires kept { HasKept (program_of frame.now.program) (M.State.view entry.now) }
     requires rising { AreRising choices.now }
     requires blocks { All (λ c. IsBlock M.form (written_call_of c)) calls.now }
     requires calls { AllPairs (λ x y. x.step < y.step) calls.now }
     requires some { 1 ≤ limits.steps }
     requires same { M.State.view state ≡ M.State.view entry.now }
-    ensures { (registers : ℕ → List ℕ) → AreChanged registers (frame_in M.machine frame.now).stepped → IfOk result (λ run.
-        IsRun (frame_in M.machine frame.now) limits.turns
+    ensures { (registers : ℕ → List ℕ) → AreChanged registers (frame_in frame.now).stepped → IfOk result (λ run.
+        IsRun (frame_in frame.now) limits.turns
         (called_start (M.State.view entry.now) choices.now registers (map written_call_of calls.now)) (map written_call_of calls.now) (limits.steps - 1) run) }
 {
     let mut stack = Vec::new(alloc);
@@ -174,18 +160,17 @@ fn follow<M: Machine>(
 /// Want of memory.
 pub fn called_state<M: Machine>(
     alloc: Global,
-    frame: &RankedFrame,
+    frame: &RankedFrame<M>,
     start: &Start,
 ) -> Result<M::State, AllocError>
-    requires rank { frame.now.rank ≤ length frame.now.contracts.now }
-    requires start { IsWritten M.form (is_known_at (frame_of_rank M.machine frame.now).program) (written_of start.now) }
-    ensures { (calls : List WrittenCall) → IfOk result (λ s. M.State.view s ≡ (start_called M.machine M.form frame.now (written_of start.now) calls).state) }
+    requires start { IsWritten M.form (is_known_at (frame_of_rank frame.now).program) (written_of start.now) }
+    ensures { (calls : List WrittenCall) → IfOk result (λ s. M.State.view s ≡ (start_called M.form frame.now (written_of start.now) calls).state) }
 {
     if frame.rank == frame.contracts.len() {
-        let state = start_state::<M>(alloc, frame.image, frame.notes, frame.entry, start)?;
+        let state = start_state::<M>(alloc, &frame.program, start)?;
         return Ok(state);
     }
-    let memory = memory_given(alloc, frame.image, &[], &start.bytes)?;
+    let memory = memory_given(alloc, frame.program.image, &[], &start.bytes)?;
     Ok(M::make(start, frame.contracts[frame.rank].at, memory))
 }
 
@@ -225,38 +210,34 @@ pub(crate) fn own<'a>(contracts: &'a [Contract], rank: usize, spans: &'a [Span])
 /// What the run of a frame from a state comes to within its limits. The error is want of memory.
 fn run_ranked<M: Machine>(
     alloc: Global,
-    frame: &RankedFrame,
+    frame: &RankedFrame<M>,
     state: M::State,
     choices: &[(u64, u8)],
     calls: &[CallState],
     limits: Limits,
 ) -> Result<CalledRun, AllocError>
-    requires order { order_of frame.now.image.now ≡ M.machine.endian }
-    requires readable { AreReadable M.State.has_register (notes_of frame.now.notes.now) }
-    requires contracts { All (λ x. IsReadableContract M.State.has_register (contract_of x)) frame.now.contracts.now }
-    requires rank { frame.now.rank ≤ length frame.now.contracts.now }
-    requires kept { HasKept (whole_in M.machine frame.now).program (M.State.view state) }
+    requires kept { HasKept (whole_in frame.now).program (M.State.view state) }
     requires rising { AreRising choices.now }
     requires blocks { All (λ c. IsBlock M.form (written_call_of c)) calls.now }
     requires calls { AllPairs (λ x y. x.step < y.step) calls.now }
     requires some { 1 ≤ limits.steps }
     ensures { (registers : ℕ → List ℕ) → AreChanged registers (map contract_of (take frame.now.rank frame.now.contracts.now)) → IfOk result (λ run.
-        IsRun (called_frame (whole_in M.machine frame.now).program (map contract_of (take frame.now.rank frame.now.contracts.now))
+        IsRun (called_frame (whole_in frame.now).program (map contract_of (take frame.now.rank frame.now.contracts.now))
         (slice_get (map contract_of frame.now.contracts.now) frame.now.rank)) limits.turns
         (called_start (M.State.view state) choices.now registers (map written_call_of calls.now)) (map written_call_of calls.now) (limits.steps - 1) run) }
 {
-    frame.image.bytes();
-    let big = frame.image.is_big_machine();
-    let index = index_of(alloc, frame.notes)?;
+    frame.program.image.bytes();
+    let index = index_of(alloc, frame.program.notes)?;
     let entry = M::copy(alloc, &state)?;
-    let spans = own_spans(alloc, frame.contracts, frame.rank, &entry, big)?;
+    let spans = own_spans(
+        alloc,
+        frame.contracts,
+        frame.rank,
+        &entry,
+        frame.program.big,
+    )?;
     let called = CallFrame {
-        program: Program {
-            image: frame.image,
-            notes: frame.notes,
-            big,
-            function: frame.entry,
-        },
+        program: frame.program,
         index: &index,
         stepped: &frame.contracts[..frame.rank],
         own: own(frame.contracts, frame.rank, &spans),
@@ -276,26 +257,22 @@ fn run_ranked<M: Machine>(
 /// Want of memory.
 pub fn run_called<M: Machine>(
     alloc: Global,
-    frame: &RankedFrame,
+    frame: &RankedFrame<M>,
     start: &Start,
     calls: &[CallState],
     k: Option<u64>,
     limit: u64,
 ) -> Result<CalledRun, AllocError>
-    requires order { order_of frame.now.image.now ≡ M.machine.endian }
-    requires readable { AreReadable M.machine.has_register (notes_of frame.now.notes.now) }
-    requires contracts { All (λ x. IsReadableContract M.machine.has_register (contract_of x)) frame.now.contracts.now }
-    requires rank { frame.now.rank ≤ length frame.now.contracts.now }
-    requires start { IsWritten M.form (is_known_at (frame_of_rank M.machine frame.now).program) (written_of start.now) }
-    requires blocks { All (λ c. IsWrittenCall (whole_in M.machine frame.now) M.form (written_call_of c)) calls.now }
+    requires start { IsWritten M.form (is_known_at (frame_of_rank frame.now).program) (written_of start.now) }
+    requires blocks { All (λ c. IsWrittenCall (whole_in frame.now) M.form (written_call_of c)) calls.now }
     requires calls { AllPairs (λ x y. x.step < y.step) calls.now }
     requires some { 1 ≤ limit }
-    ensures cause { IfOk result (λ run. cause_of run.ending ≡ cause_within (frame_of_rank M.machine frame.now) (reports.turns_within (limit - 1) k)
-        (start_called M.machine M.form frame.now (written_of start.now) (map written_call_of calls.now)) (map written_call_of calls.now) (limit - 1)) }
-    ensures found { IfOk result (λ run. IsFoundAs run.ending (found (frame_of_rank M.machine frame.now) k
-        (start_called M.machine M.form frame.now (written_of start.now) (map written_call_of calls.now)) (limit - 1))) }
-    ensures called { IfOk result (λ run. cause_of run.ending ≡ None → run.called ≡ has_called (frame_of_rank M.machine frame.now)
-        (reports.turns_within (limit - 1) k) (start_called M.machine M.form frame.now (written_of start.now) (map written_call_of calls.now)) limit) }
+    ensures cause { IfOk result (λ run. cause_of run.ending ≡ cause_within (frame_of_rank frame.now) (reports.turns_within (limit - 1) k)
+        (start_called M.form frame.now (written_of start.now) (map written_call_of calls.now)) (map written_call_of calls.now) (limit - 1)) }
+    ensures found { IfOk result (λ run. IsFoundAs run.ending (found (frame_of_rank frame.now) k
+        (start_called M.form frame.now (written_of start.now) (map written_call_of calls.now)) (limit - 1))) }
+    ensures called { IfOk result (λ run. cause_of run.ending ≡ None → run.called ≡ has_called (frame_of_rank frame.now)
+        (reports.turns_within (limit - 1) k) (start_called M.form frame.now (written_of start.now) (map written_call_of calls.now)) limit) }
 {
     let state = called_state::<M>(alloc, frame, start)?;
     let limits = Limits {

@@ -12,23 +12,22 @@ ghost use Rattle.frame_spec.specs.Frames.{Contract as ContractMeant, stored_by_r
 ghost use Rattle.frame_spec.specs.FrameRuns as runs;
 ghost use Rattle.frame_spec.specs.FrameRuns.{frame_step, leaves_by, links_by, unless_outside};
 ghost use Rattle.notes_value.specs.FrameViews.{contract_of};
-ghost use Rattle.notes_value.specs.NoteViews.{notes_of};
-ghost use Rattle.notes_value.specs.Reads.{AreReadable, IsReadableContract};
+ghost use Rattle.notes_value.specs.Reads.{IsReadableContract};
 ghost use Rattle.state_text.specs.Starts.{event_of};
-ghost use Rattle.table_run.specs.Programs.{program_of};
+ghost use Rattle.program_value.specs.Programs.{program_of};
 ghost use Rattle.table_run.specs.CalledFrames.{landed, IsCalled, IsLeft, IsOwnAt, IsRowEnd, IsRunnable, called_event_of, called_frame, frame_in, own_of};
 
 use crate::changes::{contract_at, has_changed};
 use crate::ending::{CalledEvent, CalledStepEnd, StepEnd};
 use crate::frame::{CallFrame, Own};
 use crate::lines::false_line;
-use crate::program::Program;
 use crate::spans::{Span, is_outside};
 use crate::steps::{exit, walk};
 use crate::words::decoded_at;
 use byte_mem::View;
 use file_words::fetchable;
 use machine_law::{Machine, length};
+use program_value::Program;
 use state_text::Event;
 use std::alloc::AllocError;
 
@@ -41,10 +40,9 @@ struct Ahead {
 }
 
 /// The instruction at the address of a state, where it may be fetched.
-fn row_there<M: Machine>(p: &Program, state: &M::State) -> Option<M::Insn>
-    requires { memory.endian p.now.big ≡ M.machine.endian }
+fn row_there<M: Machine>(p: &Program<M>, state: &M::State) -> Option<M::Insn>
     ensures { option_map M.Machine.row result
-        ≡ row_at (program_of M.machine p.now) ((program_of M.machine p.now).word (M.State.view state.now)) (M.State.view state.now).pc }
+        ≡ row_at (program_of p.now) ((program_of p.now).word (M.State.view state.now)) (M.State.view state.now).pc }
 {
     let at = state.pc();
     let word = decoded_at::<M>(p, state, at);
@@ -74,13 +72,12 @@ fn stores_outside(own: Option<Own>, stored: Option<(u32, u8)>) -> bool
 }
 
 /// What is known of the row at the address of a state.
-fn look_ahead<M: Machine>(frame: &CallFrame, state: &M::State) -> Ahead
-    requires { memory.endian frame.now.program.big ≡ M.machine.endian }
+fn look_ahead<M: Machine>(frame: &CallFrame<M>, state: &M::State) -> Ahead
     ensures outside { (entry : State) → IsOwnAt M.machine.endian frame.now.own entry →
-        result.outside ≡ frames.is_outside (own_of frame.now.own) M.machine.endian entry (stored_by_row (row_at (program_of M.machine frame.now.program)
-        ((program_of M.machine frame.now.program).word (M.State.view state.now)) (M.State.view state.now).pc) (M.State.view state.now)) }
-    ensures links { result.links ≡ links_by (row_at (program_of M.machine frame.now.program)
-        ((program_of M.machine frame.now.program).word (M.State.view state.now)) (M.State.view state.now).pc) }
+        result.outside ≡ frames.is_outside (own_of frame.now.own) M.machine.endian entry (stored_by_row (row_at (program_of frame.now.program)
+        ((program_of frame.now.program).word (M.State.view state.now)) (M.State.view state.now).pc) (M.State.view state.now)) }
+    ensures links { result.links ≡ links_by (row_at (program_of frame.now.program)
+        ((program_of frame.now.program).word (M.State.view state.now)) (M.State.view state.now).pc) }
 {
     match row_there::<M>(&frame.program, state) {
         None => Ahead {
@@ -132,11 +129,9 @@ fn leave_own<M: Machine>(own: Own, big: bool, entry: &M::State, state: &M::State
 }
 
 /// The exit of the entry's frame in a state, judged by the ensure lines.
-fn leave_entry<M: Machine>(p: &Program, entry: &M::State, state: &M::State) -> CalledStepEnd
-    requires order { memory.endian p.now.big ≡ M.machine.endian }
-    requires readable { AreReadable M.State.has_register (notes_of p.now.notes.now) }
-    ensures { (stepped : List ContractMeant) (c : Place) → IsLeft result (runs.settles (called_frame (program_of M.machine p.now) stepped None)
-        (M.State.view entry.now) c (meaning.exit (program_of M.machine p.now) (M.State.view entry.now) (M.State.view state.now))) }
+fn leave_entry<M: Machine>(p: &Program<M>, entry: &M::State, state: &M::State) -> CalledStepEnd
+    ensures { (stepped : List ContractMeant) (c : Place) → IsLeft result (runs.settles (called_frame (program_of p.now) stepped None)
+        (M.State.view entry.now) c (meaning.exit (program_of p.now) (M.State.view entry.now) (M.State.view state.now))) }
 {
     match exit::<M>(p, entry, state) {
         StepEnd::Stops(event) => CalledStepEnd::Halts(CalledEvent::OfStep(event)),
@@ -146,10 +141,10 @@ fn leave_entry<M: Machine>(p: &Program, entry: &M::State, state: &M::State) -> C
 }
 
 /// The exit of a frame in a state.
-fn leave<M: Machine>(frame: &CallFrame, entry: &M::State, state: &M::State) -> CalledStepEnd
-    requires { IsRunnable M.machine M.State.has_register frame.now }
-    ensures { (c : Place) → IsLeft result (runs.settles (frame_in M.machine frame.now) (M.State.view entry.now) c
-        (meaning.exit (frame_in M.machine frame.now).program (M.State.view entry.now) (M.State.view state.now))) }
+fn leave<M: Machine>(frame: &CallFrame<M>, entry: &M::State, state: &M::State) -> CalledStepEnd
+    requires { IsRunnable frame.now }
+    ensures { (c : Place) → IsLeft result (runs.settles (frame_in frame.now) (M.State.view entry.now) c
+        (meaning.exit (frame_in frame.now).program (M.State.view entry.now) (M.State.view state.now))) }
 {
     match frame.own {
         None => leave_entry::<M>(&frame.program, entry, state),
@@ -158,7 +153,7 @@ fn leave<M: Machine>(frame: &CallFrame, entry: &M::State, state: &M::State) -> C
 }
 
 /// The step goes on to the start of a contract that is stepped over, by a call that keeps its return address in the link register.
-fn is_called(frame: &CallFrame, links: bool, deeper: bool, to: u32) -> bool
+fn is_called<M: Machine>(frame: &CallFrame<M>, links: bool, deeper: bool, to: u32) -> bool
     ensures { result ≡ (is_some (frames.contract_at (map contract_of frame.now.stepped.now) to) && deeper && links) }
 {
     if !links {
@@ -172,14 +167,14 @@ fn is_called(frame: &CallFrame, links: bool, deeper: bool, to: u32) -> bool
 
 /// The exit of a frame in a state, unless the step stores outside of what its contract may write.
 fn leave_within<M: Machine>(
-    frame: &CallFrame,
+    frame: &CallFrame<M>,
     outside: bool,
     entry: &M::State,
     state: &M::State,
 ) -> CalledStepEnd
-    requires { IsRunnable M.machine M.State.has_register frame.now }
-    ensures { (c : Place) → IsLeft result (if outside then runs.Halts frames.WritesFails else runs.settles (frame_in M.machine frame.now)
-        (M.State.view entry.now) c (meaning.exit (frame_in M.machine frame.now).program (M.State.view entry.now) (M.State.view state.now))) }
+    requires { IsRunnable frame.now }
+    ensures { (c : Place) → IsLeft result (if outside then runs.Halts frames.WritesFails else runs.settles (frame_in frame.now)
+        (M.State.view entry.now) c (meaning.exit (frame_in frame.now).program (M.State.view entry.now) (M.State.view state.now))) }
 {
     if outside {
         return CalledStepEnd::Halts(CalledEvent::WritesFails);
@@ -188,7 +183,7 @@ fn leave_within<M: Machine>(
 }
 
 /// The step goes on to an address, unless it stores outside of what the frame's contract may write.
-fn land(frame: &CallFrame, ahead: Ahead, deeper: bool, to: u32) -> CalledStepEnd
+fn land<M: Machine>(frame: &CallFrame<M>, ahead: Ahead, deeper: bool, to: u32) -> CalledStepEnd
     ensures { result ≡ landed ahead.outside (is_some (frames.contract_at (map contract_of frame.now.stepped.now) to) && deeper && ahead.links) }
 {
     if ahead.outside {
@@ -203,16 +198,16 @@ fn land(frame: &CallFrame, ahead: Ahead, deeper: bool, to: u32) -> CalledStepEnd
 /// The step of the row at a place under a choice, in a run of a frame that began in the state at entry. The state and the stack, whose last address is the top,
 /// are those that the step leaves. The error is want of memory.
 pub(crate) fn row_turn<M: Machine>(
-    frame: &CallFrame,
+    frame: &CallFrame<M>,
     entry: &M::State,
     state: &mut M::State,
     stack: &mut Vec<u32>,
     choice: u8,
 ) -> Result<CalledStepEnd, AllocError>
-    requires frame { IsRunnable M.machine M.State.has_register frame.now }
+    requires frame { IsRunnable frame.now }
     requires own { IsOwnAt M.machine.endian frame.now.own (M.State.view entry.now) }
     ensures end { IfOk result (λ end. IsRowEnd end (M.State.view state.new) (reverse stack.new.items)
-        (frame_step (frame_in M.machine frame.now) (M.State.view entry.now)
+        (frame_step (frame_in frame.now) (M.State.view entry.now)
         (record { state = M.State.view state.old; stack = reverse stack.old.items }) choice)) }
     ensures called { IfOk result (λ end. IsCalled end → is_some (frames.contract_at (map contract_of frame.now.stepped.now)
         (M.State.view state.new).pc) ≡ true) }

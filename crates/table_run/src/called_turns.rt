@@ -1,12 +1,12 @@
 //! One step of a run of a frame that steps over contracts.
-ghost use Rattle.std.specs.Prelude.{◌≡◌, ◌≤◌, ℕ, IfOk, IfSome, length, map, reverse};
+ghost use Rattle.std.specs.Prelude.{ℕ, IfOk, IfSome, map, reverse};
 ghost use Rattle.std.specs.Option.{option_map};
 ghost use Rattle.bilv_spec.specs.PointLaws.{HasLawfulRows};
 ghost use Rattle.bilv_spec.specs.Run.{Place};
 ghost use Rattle.frame_spec.specs.Frames.{Content};
 ghost use Rattle.notes_value.specs.FrameViews.{contract_of};
 ghost use Rattle.state_text.specs.Starts.{written_call_of};
-ghost use Rattle.table_run.specs.Programs.{program_of};
+ghost use Rattle.program_value.specs.Programs.{program_of};
 ghost use Rattle.table_run.specs.CalledFrames.{IsAt, IsBlock, IsGift, IsOwnAt, IsRunnable, IsStanding, IsTurnEnd, frame_in, stand_after, turned, turned_wrong};
 
 use crate::called_rows::row_turn;
@@ -31,7 +31,7 @@ pub(crate) enum Stand {
 /// address is the top, are those that the step leaves. The error is want of memory.
 pub(crate) fn turn<M: Machine>(
     alloc: Global,
-    frame: &CallFrame,
+    frame: &CallFrame<M>,
     entry: &M::State,
     state: &mut M::State,
     stack: &mut Vec<u32>,
@@ -39,18 +39,18 @@ pub(crate) fn turn<M: Machine>(
     choice: u8,
     block: Option<&CallState>,
 ) -> Result<CalledStepEnd, AllocError>
-    requires frame { IsRunnable M.machine M.State.has_register frame.now }
-    requires lawful { HasLawfulRows (program_of M.machine frame.now.program) }
+    requires frame { IsRunnable frame.now }
+    requires lawful { HasLawfulRows (program_of frame.now.program) }
     requires own { IsOwnAt M.machine.endian frame.now.own (M.State.view entry.now) }
     requires block { IfSome block (λ c. IsBlock M.form (written_call_of c.now)) }
     requires stands { IsStanding stand (map contract_of frame.now.stepped.now) (M.State.view state.old) stack.old.items }
-    ensures end { (c : Place) (given : Content) (n : ℕ) → IsAt (program_of M.machine frame.now.program) c (M.State.view state.old) (reverse stack.old.items) →
-        IsGift (frame_in M.machine frame.now).stepped (option_map (λ c. written_call_of c.now) block.entry) given →
-        IfOk result (λ end. IsTurnEnd end (program_of M.machine frame.now.program) (M.State.view state.new) (reverse stack.new.items) n
-        (turned stand (frame_in M.machine frame.now) (M.State.view entry.now) c choice given)
-        (turned_wrong stand (frame_in M.machine frame.now) (M.State.view entry.now) c (option_map (λ c. written_call_of c.now) block.entry) given n)) }
-    ensures stands { (c : Place) (given : Content) → IsAt (program_of M.machine frame.now.program) c (M.State.view state.old) (reverse stack.old.items) →
-        IsGift (frame_in M.machine frame.now).stepped (option_map (λ c. written_call_of c.now) block.entry) given →
+    ensures end { (c : Place) (given : Content) (n : ℕ) → IsAt (program_of frame.now.program) c (M.State.view state.old) (reverse stack.old.items) →
+        IsGift (frame_in frame.now).stepped (option_map (λ c. written_call_of c.now) block.entry) given →
+        IfOk result (λ end. IsTurnEnd end (program_of frame.now.program) (M.State.view state.new) (reverse stack.new.items) n
+        (turned stand (frame_in frame.now) (M.State.view entry.now) c choice given)
+        (turned_wrong stand (frame_in frame.now) (M.State.view entry.now) c (option_map (λ c. written_call_of c.now) block.entry) given n)) }
+    ensures stands { (c : Place) (given : Content) → IsAt (program_of frame.now.program) c (M.State.view state.old) (reverse stack.old.items) →
+        IsGift (frame_in frame.now).stepped (option_map (λ c. written_call_of c.now) block.entry) given →
         IfOk result (λ end. IsStanding (stand_after end) (map contract_of frame.now.stepped.now) (M.State.view state.new) stack.new.items) }
 {
     match stand {

@@ -1,16 +1,14 @@
 //! Contract steps: a call of a contract that is stepped over.
-ghost use Rattle.std.specs.Prelude.{◌≡◌, ◌≤◌, ◌^◌, ℕ, true, IfOk, IfSome, is_some, length, map, reverse};
+ghost use Rattle.std.specs.Prelude.{◌≡◌, ◌≤◌, true, IfOk, IfSome, is_some, length, map, reverse};
 ghost use Rattle.std.specs.Option.{option_map};
 ghost use Rattle.word_spec.specs.State.{State};
 ghost use Rattle.frame_spec.specs.Frames as frames;
 ghost use Rattle.frame_spec.specs.Frames.{Content, written};
-ghost use Rattle.frame_spec.specs.FrameRuns.{contract_step, returns_by, state_after};
-ghost use Rattle.frame_spec.specs.FrameReports.{given_by};
+ghost use Rattle.frame_spec.specs.FrameRuns.{contract_step};
 ghost use Rattle.frame_texts_spec.specs.CallReplays.{is_block_of};
-ghost use Rattle.bilv_spec.specs.Run as meaning;
 ghost use Rattle.notes_value.specs.FrameViews.{contract_of};
 ghost use Rattle.state_text.specs.Starts.{written_call_of};
-ghost use Rattle.table_run.specs.Programs.{program_of};
+ghost use Rattle.program_value.specs.Programs.{program_of};
 ghost use Rattle.table_run.specs.FrameEnds.{HasKept};
 ghost use Rattle.table_run.specs.Spans.{bytes_of};
 ghost use Rattle.table_run.specs.CalledFrames.{IsBlock, IsContractEnd, IsGift, IsOwnAt, IsReturn, IsRunnable, frame_in, own_of};
@@ -43,19 +41,19 @@ pub(crate) fn leaves_own(own: Option<Own>, spans: &[Span]) -> bool
 /// The return from a contract step in the state that it is given, which is judged by what the contract gives. The error is want of memory.
 fn come_back<M: Machine>(
     alloc: Global,
-    frame: &CallFrame,
+    frame: &CallFrame<M>,
     contract: &Contract,
     spans: &[Span],
     call: &CallState,
     state: &mut M::State,
     stack: &mut Vec<u32>,
 ) -> Result<CalledStepEnd, AllocError>
-    requires frame { IsRunnable M.machine M.State.has_register frame.now }
+    requires frame { IsRunnable frame.now }
     requires contract { IsReadableContract M.State.has_register (contract_of contract.now) }
     requires block { IsBlock M.form (written_call_of call.now) }
     requires returns { 1 ≤ length stack.old.items }
     requires spans { bytes_of spans.now ≡ written M.machine.endian (contract_of contract.now).writes (M.State.view state.old) }
-    ensures { IfOk result (λ end. IsReturn M.machine frame.now (contract_of contract.now) (written_call_of call.now) end
+    ensures { IfOk result (λ end. IsReturn frame.now (contract_of contract.now) (written_call_of call.now) end
         (M.State.view state.old) (reverse stack.old.items) (M.State.view state.new) (reverse stack.new.items)) }
 {
     let count = stack.len();
@@ -73,21 +71,21 @@ fn come_back<M: Machine>(
 /// memory.
 pub(crate) fn contract_turn<M: Machine>(
     alloc: Global,
-    frame: &CallFrame,
+    frame: &CallFrame<M>,
     state: &mut M::State,
     stack: &mut Vec<u32>,
     block: Option<&CallState>,
 ) -> Result<CalledStepEnd, AllocError>
-    requires frame { IsRunnable M.machine M.State.has_register frame.now }
+    requires frame { IsRunnable frame.now }
     requires block { IfSome block (λ c. IsBlock M.form (written_call_of c.now)) }
     requires called { is_some (frames.contract_at (map contract_of frame.now.stepped.now) (M.State.view state.old).pc) ≡ true }
     requires returns { 1 ≤ length stack.old.items }
     ensures { (entry : State) (given : Content) → IsOwnAt M.machine.endian frame.now.own entry →
-        IsGift (frame_in M.machine frame.now).stepped (option_map (λ c. written_call_of c.now) block.entry) given →
-        HasKept (program_of M.machine frame.now.program) (M.State.view state.old) →
-        IfOk result (λ end. IsContractEnd end (program_of M.machine frame.now.program) (M.State.view state.new) (reverse stack.new.items)
-        (contract_step (frame_in M.machine frame.now) entry (record { state = M.State.view state.old; stack = reverse stack.old.items }) given)
-        (is_block_of (frame_in M.machine frame.now) (record { state = M.State.view state.old; stack = reverse stack.old.items })
+        IsGift (frame_in frame.now).stepped (option_map (λ c. written_call_of c.now) block.entry) given →
+        HasKept (program_of frame.now.program) (M.State.view state.old) →
+        IfOk result (λ end. IsContractEnd end (program_of frame.now.program) (M.State.view state.new) (reverse stack.new.items)
+        (contract_step (frame_in frame.now) entry (record { state = M.State.view state.old; stack = reverse stack.old.items }) given)
+        (is_block_of (frame_in frame.now) (record { state = M.State.view state.old; stack = reverse stack.old.items })
         (option_map (λ c. written_call_of c.now) block.entry))) }
 {
     let at = state.pc();

@@ -3,27 +3,25 @@ ghost use Rattle.std.specs.Prelude.{◌≡◌, ◌==◌, IfOk, map, nat_eq, reve
 ghost use Rattle.std.specs.List.{list_any};
 ghost use Rattle.std.specs.List.Sorted.{IsStrictlyIncreasing};
 ghost use Rattle.word_spec.specs.Memory as memory;
-ghost use Rattle.machine_spec.specs.Machine as table;
 ghost use Rattle.bilv_spec.specs.Run.{Program as Tables, false_assert as first_false};
 ghost use Rattle.frame_spec.specs.Frames as frames;
 ghost use Rattle.frame_spec.specs.FrameRuns as runs;
 ghost use Rattle.frame_spec.specs.FrameFound.{found_by};
 ghost use Rattle.notes_value.specs.NoteViews.{assert_of, notes_of};
-ghost use Rattle.notes_value.specs.Reads.{AreReadable};
 ghost use Rattle.notes_index.specs.Indexed.{AreIndexed, IsIndex, assert_places};
 ghost use Rattle.state_text.specs.Starts.{event_of};
-ghost use Rattle.table_run.specs.Programs.{program_of};
+ghost use Rattle.program_value.specs.Programs.{program_of};
 ghost use Rattle.state_text.specs.Starts.{frame_event_of};
 ghost use Rattle.table_run.specs.FrameEnds.{frame_of, frame_found_of, IsFrameStepEnd};
 
 use crate::ending::{FrameEnding, FrameStepEnd, StepEnd};
 use crate::lines::false_assert;
-use crate::program::Program;
 use crate::steps::step;
 use byte_mem::View;
 use machine_law::Machine;
 use notes_index::{Index, group};
 use notes_value::Assert;
+use program_value::Program;
 use state_text::{Event, FrameEvent};
 use std::alloc::AllocError;
 
@@ -55,10 +53,15 @@ fn has_invariant(asserts: &[Assert], index: &[(u32, usize)], invariants: &[u32],
 }
 
 /// The address is a head. Nothing is sought where there are no invariants.
-pub(crate) fn is_head(p: &Program, index: &Index, invariants: &[u32], at: u32) -> bool
+pub(crate) fn is_head<M: Machine>(
+    p: &Program<M>,
+    index: &Index,
+    invariants: &[u32],
+    at: u32,
+) -> bool
     requires index { AreIndexed p.now.notes.now index.now }
     requires rising { IsStrictlyIncreasing invariants.now }
-    ensures { (m : table.Machine) → result ≡ frames.is_head (frame_of (program_of m p.now) invariants.now) at }
+    ensures { result ≡ frames.is_head (frame_of (program_of p.now) invariants.now) at }
 {
     if invariants.is_empty() {
         return false;
@@ -85,7 +88,7 @@ pub(crate) fn frame_event(event: Event, invariants: &[u32]) -> FrameEvent
 /// One step under a choice, for a run that began in the state at entry. The state and the stack, whose last address is the top, are those that the step leaves.
 /// The error is want of memory.
 pub(crate) fn frame_step<M: Machine>(
-    p: &Program,
+    p: &Program<M>,
     index: &Index,
     invariants: &[u32],
     entry: &M::State,
@@ -93,12 +96,10 @@ pub(crate) fn frame_step<M: Machine>(
     stack: &mut Vec<u32>,
     choice: u8,
 ) -> Result<FrameStepEnd, AllocError>
-    requires order { memory.endian p.now.big ≡ M.machine.endian }
-    requires readable { AreReadable M.State.has_register (notes_of p.now.notes.now) }
     requires index { AreIndexed p.now.notes.now index.now }
     requires rising { IsStrictlyIncreasing invariants.now }
     ensures end { IfOk result (λ end. IsFrameStepEnd end (M.State.view state.new) (reverse stack.new.items)
-        (runs.frame_step (frame_of (program_of M.machine p.now) invariants.now) (M.State.view entry.now)
+        (runs.frame_step (frame_of (program_of p.now) invariants.now) (M.State.view entry.now)
         (record { state = M.State.view state.old; stack = reverse stack.old.items }) choice)) }
 {
     match step::<M>(p, index, entry, state, stack, choice)? {
@@ -115,18 +116,16 @@ pub(crate) fn frame_step<M: Machine>(
 
 /// The arrival at a head in a state, which is the step of a number: it is judged by the assert lines there.
 pub(crate) fn arrival<M: Machine>(
-    p: &Program,
+    p: &Program<M>,
     index: &Index,
     invariants: &[u32],
     entry: &M::State,
     state: &M::State,
     step: u64,
 ) -> FrameEnding
-    requires order { memory.endian p.now.big ≡ M.machine.endian }
-    requires readable { AreReadable M.State.has_register (notes_of p.now.notes.now) }
     requires index { AreIndexed p.now.notes.now index.now }
     requires rising { IsStrictlyIncreasing invariants.now }
-    ensures { (before : runs.Run) → frame_found_of result ≡ found_by before (runs.arrival (frame_of (program_of M.machine p.now) invariants.now)
+    ensures { (before : runs.Run) → frame_found_of result ≡ found_by before (runs.arrival (frame_of (program_of p.now) invariants.now)
         (first_false M.machine.endian (notes_of p.now.notes.now).asserts (M.State.view state.now) (M.State.view entry.now)) step (M.State.view state.now).pc) }
 {
     let at = state.pc();

@@ -1,24 +1,20 @@
 //! Whether a state may be the one at entry.
 ghost use Rattle.std.specs.Prelude.{◌≡◌, ℕ, ◌≤◌, ◌+◌, ◌^◌, MatchOption, IfErr, OnOk, None};
 ghost use Rattle.machine_spec.specs.Machine.{IsAtPlace};
-ghost use Rattle.bilv_spec.specs.Files.{order_of, program_of as program_of_files};
 ghost use Rattle.bilv_spec.specs.Verdict.{IsEntryState};
 ghost use Rattle.bilv_spec.specs.EntryFaults.{IsEntryStateFault, false_require};
-ghost use Rattle.notes_value.specs.NoteViews.{notes_of};
-ghost use Rattle.notes_value.specs.Reads.{AreReadable};
-ghost use Rattle.table_run.specs.Programs.{program_of};
+ghost use Rattle.program_value.specs.Programs.{program_at};
 ghost use Rattle.table_run.specs.Endings.{fault_of, IsLinesFault};
 ghost use Rattle.table_run.specs.Known.{HasBytesTo, IsFirstOther, IsRightTo, IsFirstWrong};
 
 use crate::ending::EntryFault;
 use crate::lines::false_line;
-use crate::program::Program;
 use crate::words::{byte, is_place};
 use byte_mem::View;
-use elf32_reader::{Image, Part};
+use elf32_reader::Part;
 use known_bytes::{byte_in, first_known};
 use machine_law::Machine;
-use notes_value::Notes;
+use program_value::Program;
 
 /// The first address of a part at which a state has another byte.
 pub(crate) fn first_other<V: View>(part: &Part, state: &V) -> Option<u32>
@@ -38,9 +34,9 @@ pub(crate) fn first_other<V: View>(part: &Part, state: &V) -> Option<u32>
 }
 
 /// The first known address at which a state has another byte than the file.
-fn first_wrong<M: Machine>(p: &Program, state: &M::State) -> Option<u32>
-    ensures { MatchOption result (IsRightTo (program_of M.machine p.now) (M.State.view state.now) (2 ^ 32))
-        (IsFirstWrong (program_of M.machine p.now) (M.State.view state.now)) }
+fn first_wrong<M: Machine>(p: &Program<M>, state: &M::State) -> Option<u32>
+    ensures { MatchOption result (IsRightTo (program_at p.now (M.State.view state.now).pc) (M.State.view state.now) (2 ^ 32))
+        (IsFirstWrong (program_at p.now (M.State.view state.now).pc) (M.State.view state.now)) }
 {
     let mut at = 0u32;
     loop {
@@ -64,24 +60,18 @@ fn first_wrong<M: Machine>(p: &Program, state: &M::State) -> Option<u32>
 /// # Errors
 ///
 /// `Link`, else `Require` with the number of the first line that is false.
-pub fn lines_ok<M: Machine>(
-    image: &Image,
-    notes: &Notes,
-    state: &M::State,
-) -> Result<(), EntryFault>
-    requires order { order_of image.now ≡ M.machine.endian }
-    requires readable { AreReadable M.machine.has_register (notes_of notes.now) }
+pub fn lines_ok<M: Machine>(program: &Program<M>, state: &M::State) -> Result<(), EntryFault>
     ensures link { OnOk result (IsAtPlace M.machine.narrow ((M.State.view state.now).regs M.machine.link)) }
     ensures lines { OnOk result
-        (false_require (program_of_files M.machine image.now (notes_of notes.now) (M.State.view state.now).pc) (M.State.view state.now) ≡ None) }
+        (false_require (program_at program.now (M.State.view state.now).pc) (M.State.view state.now) ≡ None) }
     ensures fault { IfErr result (λ f.
-        IsEntryStateFault (program_of_files M.machine image.now (notes_of notes.now) (M.State.view state.now).pc) (M.State.view state.now) (fault_of f)) }
+        IsEntryStateFault (program_at program.now (M.State.view state.now).pc) (M.State.view state.now) (fault_of f)) }
     ensures kind { IfErr result IsLinesFault }
 {
     if !is_place::<M>(state.link()) {
         return Err(EntryFault::Link);
     }
-    match false_line(&notes.required, state, state, image.is_big_machine()) {
+    match false_line(&program.notes.required, state, state, program.big) {
         None => Ok(()),
         Some(line) => Err(EntryFault::Require { line }),
     }
@@ -93,25 +83,13 @@ pub fn lines_ok<M: Machine>(
 /// # Errors
 ///
 /// The first fault in the order of [`EntryFault`].
-pub fn entry_ok<M: Machine>(
-    image: &Image,
-    notes: &Notes,
-    state: &M::State,
-) -> Result<(), EntryFault>
-    requires order { order_of image.now ≡ M.machine.endian }
-    requires readable { AreReadable M.machine.has_register (notes_of notes.now) }
-    ensures ok { OnOk result (IsEntryState (program_of_files M.machine image.now (notes_of notes.now) (M.State.view state.now).pc) (M.State.view state.now)) }
+pub fn entry_ok<M: Machine>(program: &Program<M>, state: &M::State) -> Result<(), EntryFault>
+    ensures ok { OnOk result (IsEntryState (program_at program.now (M.State.view state.now).pc) (M.State.view state.now)) }
     ensures fault { IfErr result (λ f.
-        IsEntryStateFault (program_of_files M.machine image.now (notes_of notes.now) (M.State.view state.now).pc) (M.State.view state.now) (fault_of f)) }
+        IsEntryStateFault (program_at program.now (M.State.view state.now).pc) (M.State.view state.now) (fault_of f)) }
 {
-    lines_ok::<M>(image, notes, state)?;
-    let p = Program {
-        image,
-        notes,
-        big: image.is_big_machine(),
-        function: state.pc(),
-    };
-    match first_wrong::<M>(&p, state) {
+    lines_ok::<M>(program, state)?;
+    match first_wrong::<M>(program, state) {
         None => Ok(()),
         Some(at) => Err(EntryFault::Byte { at }),
     }

@@ -1,52 +1,43 @@
 //! The state in which a run exits.
-ghost use Rattle.std.specs.Prelude.{◌≡◌, ℕ, ◌<◌, ◌+◌, ◌^◌, IfOk, IfSome, IfNone};
-ghost use Rattle.word_spec.specs.Memory as memory;
+ghost use Rattle.std.specs.Prelude.{◌≡◌, ◌<◌, ◌+◌, ◌^◌, IfOk, IfSome, IfNone};
 ghost use Rattle.word_spec.specs.Memory.{byte_in};
 ghost use Rattle.word_spec.specs.State.{State};
-ghost use Rattle.bilv_spec.specs.Files.{order_of, program_of as program_of_files};
-ghost use Rattle.bilv_spec.specs.Run as meaning;
 ghost use Rattle.bilv_spec.specs.Points.{is_known_at};
 ghost use Rattle.machine_spec.specs.StateText.{AreRising, IsWritten};
 ghost use Rattle.bilv_spec.specs.Answers.{start_in};
 ghost use Rattle.start_value.specs.Starts.{written_of};
-ghost use Rattle.notes_value.specs.NoteViews.{notes_of};
-ghost use Rattle.notes_value.specs.Reads.{AreReadable};
-ghost use Rattle.table_run.specs.Programs.{program_of};
+ghost use Rattle.program_value.specs.Programs.{program_of};
 ghost use Rattle.table_run.specs.Exits.{IsExit, IsNoExit};
 ghost use Rattle.notes_index.specs.Indexed.{AreIndexed};
 
 use crate::choices::choice_at;
 use crate::ending::StepEnd;
-use crate::program::Program;
 use crate::runs::{next_turns, start_state};
 use crate::steps::step;
 use byte_mem::View;
-use elf32_reader::Image;
 use machine_law::Machine;
 use notes_index::{Index, index_of};
-use notes_value::Notes;
+use program_value::Program;
 use start_value::Start;
 use std::alloc::{AllocError, Global};
 
 /// The state in which the run from a state exits by the step of a number, if it does. The error is want of memory.
 fn exit_from<M: Machine>(
     alloc: Global,
-    p: &Program,
+    p: &Program<M>,
     index: &Index,
     entry: &M::State,
     mut state: M::State,
     choices: &[(u64, u8)],
     number: u64,
 ) -> Result<Option<M::State>, AllocError>
-    requires order { memory.endian p.now.big ≡ M.machine.endian }
-    requires readable { AreReadable M.State.has_register (notes_of p.now.notes.now) }
     requires index { AreIndexed p.now.notes.now index.now }
     requires rising { AreRising choices.now }
     requires few { number + 1 < 2 ^ 64 }
     requires same { M.State.view state ≡ M.State.view entry.now }
-    ensures some { IfOk result (λ o. IfSome o (λ s. IsExit (program_of M.machine p.now)
+    ensures some { IfOk result (λ o. IfSome o (λ s. IsExit (program_of p.now)
         (record { state = M.State.view entry.now; choices = byte_in choices.now }) number (M.State.view s))) }
-    ensures none { IfOk result (λ o. IfNone o (IsNoExit (program_of M.machine p.now)
+    ensures none { IfOk result (λ o. IfNone o (IsNoExit (program_of p.now)
         (record { state = M.State.view entry.now; choices = byte_in choices.now }) number)) }
 {
     let mut stack = Vec::new(alloc);
@@ -85,30 +76,28 @@ fn exit_from<M: Machine>(
 /// Want of memory.
 pub fn exit_state<M: Machine>(
     alloc: Global,
-    image: &Image,
-    notes: &Notes,
-    entry: u32,
+    program: &Program<M>,
     start: &Start,
     number: u64,
 ) -> Result<Option<M::State>, AllocError>
-    requires order { order_of image.now ≡ M.machine.endian }
-    requires readable { AreReadable M.machine.has_register (notes_of notes.now) }
     requires few { number + 1 < 2 ^ 64 }
-    requires start { IsWritten M.form (is_known_at (program_of_files M.machine image.now (notes_of notes.now) entry)) (written_of start.now) }
-    ensures some { IfOk result (λ o. IfSome o (λ s. IsExit (program_of_files M.machine image.now (notes_of notes.now) entry)
-        (start_in (program_of_files M.machine image.now (notes_of notes.now) entry) M.form (written_of start.now)) number (M.State.view s))) }
-    ensures none { IfOk result (λ o. IfNone o (IsNoExit (program_of_files M.machine image.now (notes_of notes.now) entry)
-        (start_in (program_of_files M.machine image.now (notes_of notes.now) entry) M.form (written_of start.now)) number)) }
+    requires start { IsWritten M.form (is_known_at (program_of program.now)) (written_of start.now) }
+    ensures some { IfOk result (λ o. IfSome o (λ s. IsExit (program_of program.now)
+        (start_in (program_of program.now) M.form (written_of start.now)) number (M.State.view s))) }
+    ensures none { IfOk result (λ o. IfNone o (IsNoExit (program_of program.now)
+        (start_in (program_of program.now) M.form (written_of start.now)) number)) }
 {
-    let p = Program {
-        image,
-        notes,
-        big: image.is_big_machine(),
-        function: entry,
-    };
-    let index = index_of(alloc, notes)?;
-    let state = start_state::<M>(alloc, image, notes, entry, start)?;
+    let index = index_of(alloc, program.notes)?;
+    let state = start_state::<M>(alloc, program, start)?;
     let first = M::copy(alloc, &state)?;
-    let exit = exit_from::<M>(alloc, &p, &index, &first, state, &start.choices, number)?;
+    let exit = exit_from::<M>(
+        alloc,
+        program,
+        &index,
+        &first,
+        state,
+        &start.choices,
+        number,
+    )?;
     Ok(exit)
 }

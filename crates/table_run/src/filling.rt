@@ -1,22 +1,20 @@
 //! A run whose memory is filled with a model's bytes as it is read.
 ghost use Rattle.std.specs.Prelude.{◌≡◌, ◌++◌, ℕ, List, IfOk, OnOk, map, true};
 ghost use Rattle.word_spec.specs.Memory as memory;
-ghost use Rattle.machine_spec.specs.Machine as table;
 ghost use Rattle.machine_spec.specs.StateText.{AreRising};
 ghost use Rattle.bilv_spec.specs.Points.{is_known_at};
 ghost use Rattle.bilv_spec.specs.Verdict.{fixed};
-ghost use Rattle.notes_value.specs.NoteViews.{fixed_of, notes_of};
-ghost use Rattle.notes_value.specs.Reads.{AreReadable};
+ghost use Rattle.notes_value.specs.NoteViews.{fixed_of};
 ghost use Rattle.notes_index.specs.Indexed.{AreIndexed};
-ghost use Rattle.table_run.specs.Programs.{program_of};
+ghost use Rattle.program_value.specs.Programs.{program_of};
 ghost use Rattle.table_run.specs.Traces.{AreMet, IsFuller, IsReadSet, IsStage, is_met, reached_row, row_stores, stage_reads};
 
 use crate::model_bytes::{ModelBytes, byte_of};
-use crate::program::Program;
 use crate::reads::{Stage, add_bytes, places_read, reached};
 use machine_law::Machine;
 use notes_index::Index;
 use notes_value::FixedRange;
+use program_value::Program;
 use std::alloc::{AllocError, Global};
 use std::collections::BTreeSet;
 
@@ -46,8 +44,8 @@ fn is_fixed(ranges: &[FixedRange], a: u32) -> bool
 }
 
 /// The file gives the byte at an address: it is kept, or it is loaded and fixed.
-fn is_known(p: &Program, a: u32) -> bool
-    ensures { (m : table.Machine) → result ≡ is_known_at (program_of m p.now) a }
+fn is_known<M: Machine>(p: &Program<M>, a: u32) -> bool
+    ensures { result ≡ is_known_at (program_of p.now) a }
 {
     if p.image.kept(a) {
         return true;
@@ -59,8 +57,8 @@ fn is_known(p: &Program, a: u32) -> bool
 }
 
 /// The byte at an address is the model's.
-fn has_met(p: &Program, met: &BTreeSet<u32>, a: u32) -> bool
-    ensures { (m : table.Machine) → result ≡ is_met (program_of m p.now) met.now a }
+fn has_met<M: Machine>(p: &Program<M>, met: &BTreeSet<u32>, a: u32) -> bool
+    ensures { result ≡ is_met (program_of p.now) met.now a }
 {
     if met.contains(&a) {
         return true;
@@ -70,15 +68,15 @@ fn has_met(p: &Program, met: &BTreeSet<u32>, a: u32) -> bool
 
 /// Fills the byte at an address that is not met, at entry and now. The error is want of memory.
 fn meet<M: Machine>(
-    p: &Program,
+    p: &Program<M>,
     model: &ModelBytes,
     t: &mut Filled<M::State>,
     a: u32,
 ) -> Result<(), AllocError>
     requires { AreRising model.now.bytes.now }
-    ensures fuller { OnOk result (IsFuller (program_of M.machine p.now) model.now.fill model.now.bytes.now t.old.met t.new.met
+    ensures fuller { OnOk result (IsFuller (program_of p.now) model.now.fill model.now.bytes.now t.old.met t.new.met
         (M.State.view t.old.entry) (M.State.view t.new.entry) (M.State.view t.old.state) (M.State.view t.new.state)) }
-    ensures met { OnOk result (is_met (program_of M.machine p.now) t.new.met a ≡ true) }
+    ensures met { OnOk result (is_met (program_of p.now) t.new.met a ≡ true) }
     ensures read { OnOk result (t.new.read ≡ t.old.read) }
 {
     if has_met(p, &t.met, a) {
@@ -95,15 +93,15 @@ fn meet<M: Machine>(
 
 /// Fills the bytes at some addresses that are not met. The error is want of memory.
 fn meet_all<M: Machine>(
-    p: &Program,
+    p: &Program<M>,
     model: &ModelBytes,
     t: &mut Filled<M::State>,
     places: &[u32],
 ) -> Result<(), AllocError>
     requires { AreRising model.now.bytes.now }
-    ensures fuller { OnOk result (IsFuller (program_of M.machine p.now) model.now.fill model.now.bytes.now t.old.met t.new.met
+    ensures fuller { OnOk result (IsFuller (program_of p.now) model.now.fill model.now.bytes.now t.old.met t.new.met
         (M.State.view t.old.entry) (M.State.view t.new.entry) (M.State.view t.old.state) (M.State.view t.new.state)) }
-    ensures met { OnOk result (AreMet (program_of M.machine p.now) t.new.met places.now) }
+    ensures met { OnOk result (AreMet (program_of p.now) t.new.met places.now) }
     ensures read { OnOk result (t.new.read ≡ t.old.read) }
 {
     for a in places {
@@ -116,19 +114,17 @@ fn meet_all<M: Machine>(
 /// met before. The error is want of memory.
 fn settle<M: Machine>(
     alloc: Global,
-    p: &Program,
+    p: &Program<M>,
     model: &ModelBytes,
     t: &mut Filled<M::State>,
     stage: Stage,
 ) -> Result<Vec<u32>, AllocError>
-    requires order { memory.endian p.now.big ≡ M.machine.endian }
-    requires readable { AreReadable M.State.has_register (notes_of p.now.notes.now) }
     requires index { IsStage p.now.notes.now stage }
     requires rising { AreRising model.now.bytes.now }
-    ensures fuller { IfOk result (λ v. IsFuller (program_of M.machine p.now) model.now.fill model.now.bytes.now t.old.met t.new.met
+    ensures fuller { IfOk result (λ v. IsFuller (program_of p.now) model.now.fill model.now.bytes.now t.old.met t.new.met
         (M.State.view t.old.entry) (M.State.view t.new.entry) (M.State.view t.old.state) (M.State.view t.new.state)) }
-    ensures places { IfOk result (λ v. v.items ≡ stage_reads (program_of M.machine p.now) stage.entry (M.State.view t.new.entry) (M.State.view t.new.state)) }
-    ensures met { IfOk result (λ v. AreMet (program_of M.machine p.now) t.new.met v.items) }
+    ensures places { IfOk result (λ v. v.items ≡ stage_reads (program_of p.now) stage.entry (M.State.view t.new.entry) (M.State.view t.new.state)) }
+    ensures met { IfOk result (λ v. AreMet (program_of p.now) t.new.met v.items) }
     ensures read { IfOk result (λ v. t.new.read ≡ t.old.read) }
 {
     'settling: loop {
@@ -142,9 +138,13 @@ fn settle<M: Machine>(
 }
 
 /// Notes that addresses are read, but for those whose byte the file gives. The error is want of memory.
-fn note_read(p: &Program, read: &mut BTreeSet<u32>, places: &[u32]) -> Result<(), AllocError>
-    ensures { (m : table.Machine) (before : List ℕ) → OnOk result (IsReadSet (program_of m p.now) before read.old →
-        IsReadSet (program_of m p.now) (before ++ places.now) read.new) }
+fn note_read<M: Machine>(
+    p: &Program<M>,
+    read: &mut BTreeSet<u32>,
+    places: &[u32],
+) -> Result<(), AllocError>
+    ensures { (before : List ℕ) → OnOk result (IsReadSet (program_of p.now) before read.old →
+        IsReadSet (program_of p.now) (before ++ places.now) read.new) }
 {
     for a in places {
         if is_known(p, *a) {
@@ -158,22 +158,20 @@ fn note_read(p: &Program, read: &mut BTreeSet<u32>, places: &[u32]) -> Result<()
 /// Fills the bytes that are read at a stage, and notes that they are read. The error is want of memory.
 pub(crate) fn read_stage<M: Machine>(
     alloc: Global,
-    p: &Program,
+    p: &Program<M>,
     model: &ModelBytes,
     t: &mut Filled<M::State>,
     stage: Stage,
 ) -> Result<(), AllocError>
-    requires order { memory.endian p.now.big ≡ M.machine.endian }
-    requires readable { AreReadable M.State.has_register (notes_of p.now.notes.now) }
     requires index { IsStage p.now.notes.now stage }
     requires rising { AreRising model.now.bytes.now }
-    ensures fuller { OnOk result (IsFuller (program_of M.machine p.now) model.now.fill model.now.bytes.now t.old.met t.new.met
+    ensures fuller { OnOk result (IsFuller (program_of p.now) model.now.fill model.now.bytes.now t.old.met t.new.met
         (M.State.view t.old.entry) (M.State.view t.new.entry) (M.State.view t.old.state) (M.State.view t.new.state)) }
-    ensures met { OnOk result (AreMet (program_of M.machine p.now) t.new.met
-        (stage_reads (program_of M.machine p.now) stage.entry (M.State.view t.new.entry) (M.State.view t.new.state))) }
-    ensures read { (before : List ℕ) → OnOk result (IsReadSet (program_of M.machine p.now) before t.old.read →
-        IsReadSet (program_of M.machine p.now)
-        (before ++ stage_reads (program_of M.machine p.now) stage.entry (M.State.view t.new.entry) (M.State.view t.new.state)) t.new.read) }
+    ensures met { OnOk result (AreMet (program_of p.now) t.new.met
+        (stage_reads (program_of p.now) stage.entry (M.State.view t.new.entry) (M.State.view t.new.state))) }
+    ensures read { (before : List ℕ) → OnOk result (IsReadSet (program_of p.now) before t.old.read →
+        IsReadSet (program_of p.now)
+        (before ++ stage_reads (program_of p.now) stage.entry (M.State.view t.new.entry) (M.State.view t.new.state)) t.new.read) }
 {
     let places = settle::<M>(alloc, p, model, t, stage)?;
     note_read(p, &mut t.read, &places)?;
@@ -183,19 +181,17 @@ pub(crate) fn read_stage<M: Machine>(
 /// Fills the bytes that the next step's row stores, before it does. The error is want of memory.
 pub(crate) fn meet_stored<M: Machine>(
     alloc: Global,
-    p: &Program,
+    p: &Program<M>,
     index: &Index,
     model: &ModelBytes,
     t: &mut Filled<M::State>,
 ) -> Result<(), AllocError>
-    requires order { memory.endian p.now.big ≡ M.machine.endian }
-    requires readable { AreReadable M.State.has_register (notes_of p.now.notes.now) }
     requires index { AreIndexed p.now.notes.now index.now }
     requires rising { AreRising model.now.bytes.now }
-    ensures fuller { OnOk result (IsFuller (program_of M.machine p.now) model.now.fill model.now.bytes.now t.old.met t.new.met
+    ensures fuller { OnOk result (IsFuller (program_of p.now) model.now.fill model.now.bytes.now t.old.met t.new.met
         (M.State.view t.old.entry) (M.State.view t.new.entry) (M.State.view t.old.state) (M.State.view t.new.state)) }
-    ensures met { OnOk result (AreMet (program_of M.machine p.now) t.new.met
-        (row_stores (reached_row (program_of M.machine p.now) (M.State.view t.old.entry) (M.State.view t.old.state)) (M.State.view t.old.state))) }
+    ensures met { OnOk result (AreMet (program_of p.now) t.new.met
+        (row_stores (reached_row (program_of p.now) (M.State.view t.old.entry) (M.State.view t.old.state)) (M.State.view t.old.state))) }
     ensures read { OnOk result (t.new.read ≡ t.old.read) }
 {
     let insn = match reached::<M>(p, index, &t.entry, &t.state) {

@@ -1,22 +1,21 @@
 //! The targets that an indirect jump may have whatever the stack is.
 ghost use Rattle.std.specs.Prelude.{◌≡◌, ◌++◌, map, nat_eq, Some};
 ghost use Rattle.std.specs.List.{list_any};
-ghost use Rattle.word_spec.specs.Memory as memory;
 ghost use Rattle.word_spec.specs.Words.{sub};
 ghost use Rattle.machine_spec.specs.Machine.{pair_of};
 ghost use Rattle.bilv_spec.specs.Run.{some_of, row_at, targets_at, literal_target};
 ghost use Rattle.notes_value.specs.NoteViews.{targets_of};
-ghost use Rattle.table_run.specs.Programs.{program_of};
+ghost use Rattle.program_value.specs.Programs.{program_of};
 ghost use Rattle.table_run.specs.Steps.{IsBefore};
 ghost use Rattle.notes_index.specs.Indexed.{targets_places, IsIndex};
 
-use crate::program::Program;
 use crate::words::decoded_at;
 use byte_mem::View;
 use file_words::{all_kept, fetchable};
 use machine_law::{Machine, length};
 use notes_index::group;
 use notes_value::Targets;
+use program_value::Program;
 
 /// What is known of a step before it is made: its address, how many bytes its row has, and the targets of its row's pair and of its literal, which are sought
 /// only where the row may jump to an address that the state gives.
@@ -29,9 +28,8 @@ pub(crate) struct Before {
 }
 
 /// The target of the pair of an instruction with the one before it, where that may be fetched.
-fn pair_target<M: Machine>(p: &Program, insn: &M::Insn, state: &M::State) -> Option<u32>
-    requires { memory.endian p.now.big ≡ M.machine.endian }
-    ensures { pair_of (row_at (program_of M.machine p.now) ((program_of M.machine p.now).word (M.State.view state.now)) (sub 32 (M.State.view state.now).pc 4))
+fn pair_target<M: Machine>(p: &Program<M>, insn: &M::Insn, state: &M::State) -> Option<u32>
+    ensures { pair_of (row_at (program_of p.now) ((program_of p.now).word (M.State.view state.now)) (sub 32 (M.State.view state.now).pc 4))
         (Some (M.Machine.row insn.now)) (M.State.view state.now).pc ≡ result }
 {
     let at = state.pc();
@@ -47,9 +45,8 @@ fn pair_target<M: Machine>(p: &Program, insn: &M::Insn, state: &M::State) -> Opt
 }
 
 /// The literal of an instruction, where its bytes are kept.
-fn literal_word<M: Machine>(p: &Program, insn: &M::Insn, state: &M::State) -> Option<u32>
-    requires { memory.endian p.now.big ≡ M.machine.endian }
-    ensures { literal_target (program_of M.machine p.now) ((program_of M.machine p.now).word (M.State.view state.now))
+fn literal_word<M: Machine>(p: &Program<M>, insn: &M::Insn, state: &M::State) -> Option<u32>
+    ensures { literal_target (program_of p.now) ((program_of p.now).word (M.State.view state.now))
         ((M.Machine.row insn.now).literal (M.State.view state.now).pc) ≡ some_of result }
 {
     match M::literal(insn, state.pc()) {
@@ -64,10 +61,14 @@ fn literal_word<M: Machine>(p: &Program, insn: &M::Insn, state: &M::State) -> Op
 }
 
 /// What is known of the step of an instruction, of so many bytes, in a state.
-pub(crate) fn look<M: Machine>(p: &Program, insn: &M::Insn, length: u8, state: &M::State) -> Before
-    requires order { memory.endian p.now.big ≡ M.machine.endian }
+pub(crate) fn look<M: Machine>(
+    p: &Program<M>,
+    insn: &M::Insn,
+    length: u8,
+    state: &M::State,
+) -> Before
     requires length { length ≡ (M.Machine.row insn.now).length }
-    ensures { IsBefore (program_of M.machine p.now) (M.Machine.row insn.now) (M.State.view state.now) result }
+    ensures { IsBefore (program_of p.now) (M.Machine.row insn.now) (M.State.view state.now) result }
 {
     let at = state.pc();
     if !M::successors(insn, at).indirect {

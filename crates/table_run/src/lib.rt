@@ -23,7 +23,6 @@ mod lines;
 mod made;
 mod memory;
 mod model_bytes;
-mod program;
 mod reads;
 mod runs;
 mod spans;
@@ -31,7 +30,7 @@ mod steps;
 mod tracing;
 mod words;
 
-pub use called::{RankedFrame, called_state, run_called};
+pub use called::{called_state, run_called};
 pub use called_entry::called_lines_ok;
 pub use ending::{CalledEnding, CalledEvent, CalledRun, Ending, EntryFault, FrameEnding};
 pub use entry::{entry_ok, lines_ok};

@@ -1,8 +1,7 @@
 //! The contract steps that a run makes, as they are shown.
-ghost use Rattle.std.specs.Prelude.{[], ◌≡◌, ℕ, ◌≤◌, ◌<◌, ◌++◌, All, AllPairs, IfOk, IfSome, List, OnOk, filter, is_some, length, map, nat_eq, slice_get, take, true};
+ghost use Rattle.std.specs.Prelude.{[], ◌≡◌, ℕ, ◌≤◌, ◌<◌, ◌++◌, All, AllPairs, IfOk, IfSome, List, OnOk, filter, is_some, map, nat_eq, slice_get, take, true};
 ghost use Rattle.std.specs.List.{list_any};
 ghost use Rattle.std.specs.Option.{option_map};
-ghost use Rattle.bilv_spec.specs.Files.{order_of};
 ghost use Rattle.bilv_spec.specs.PointLaws.{HasLawfulRows};
 ghost use Rattle.bilv_spec.specs.Points.{is_known_at};
 ghost use Rattle.machine_spec.specs.StateText.{AreRising, IsWritten};
@@ -12,11 +11,9 @@ ghost use Rattle.frame_spec.specs.FrameRuns as runs;
 ghost use Rattle.frame_spec.specs.FrameRuns.{IsOver};
 ghost use Rattle.frame_texts_spec.specs.CallReplays as replays;
 ghost use Rattle.notes_value.specs.FrameViews.{contract_of};
-ghost use Rattle.notes_value.specs.NoteViews.{notes_of};
-ghost use Rattle.notes_value.specs.Reads.{AreReadable, IsReadableContract};
 ghost use Rattle.start_value.specs.Starts.{written_of};
 ghost use Rattle.state_text.specs.Starts.{written_call_of};
-ghost use Rattle.table_run.specs.Programs.{program_of};
+ghost use Rattle.program_value.specs.Programs.{program_of};
 ghost use Rattle.table_run.specs.FrameEnds.{HasKept};
 ghost use Rattle.table_run.specs.Spans.{bytes_of};
 ghost use Rattle.table_run.specs.CalledFrames.{IsBlock, IsOwnAt, IsRunnable, IsStanding, called_frame, frame_in};
@@ -25,18 +22,18 @@ ghost use Rattle.table_run.specs.MadeCalls as shown;
 ghost use Rattle.table_run.specs.MadeCalls.{AreAlike, AreListed, IsShownOf, handed, kept_of, shown_in};
 
 use crate::blocks::block_at;
-use crate::called::{RankedFrame, called_state, next_stand, own, own_spans};
+use crate::called::{called_state, next_stand, own, own_spans};
 use crate::called_turns::{Stand, turn};
 use crate::changes::contract_at;
 use crate::choices::choice_at;
 use crate::ending::CalledStepEnd;
 use crate::frame::CallFrame;
-use crate::program::Program;
 use crate::runs::{Limits, next_turns};
 use crate::spans::{Span, covers, writable};
 use byte_mem::View;
 use machine_law::Machine;
 use notes_index::index_of;
+use program_value::RankedFrame;
 use start_value::Start;
 use state_text::CallState;
 use std::alloc::{AllocError, Global};
@@ -79,16 +76,16 @@ fn covered(alloc: Global, call: &CallState, spans: &[Span]) -> Result<CallState,
 /// The block of a contract step, with those of its bytes alone that its contract may write in this state. The error is want of memory.
 fn covered_at<M: Machine>(
     alloc: Global,
-    frame: &CallFrame,
+    frame: &CallFrame<M>,
     state: &M::State,
     calls: &[CallState],
     step: u64,
 ) -> Result<Option<CallState>, AllocError>
-    requires frame { IsRunnable M.machine M.State.has_register frame.now }
+    requires frame { IsRunnable frame.now }
     requires blocks { All (λ c. IsBlock M.form (written_call_of c)) calls.now }
     requires calls { AllPairs (λ x y. x.step < y.step) calls.now }
     ensures handed { is_some (frames.contract_at (map contract_of frame.now.stepped.now) (M.State.view state.now).pc) ≡ true →
-        IfOk result (λ block. option_map written_call_of block ≡ option_map (shown.covered (frame_in M.machine frame.now)
+        IfOk result (λ block. option_map written_call_of block ≡ option_map (shown.covered (frame_in frame.now)
         (record { state = M.State.view state.now; stack = [] })) (replays.block_at (map written_call_of calls.now) step)) }
     ensures block { IfOk result (λ block. IfSome block (λ c. IsBlock M.form (written_call_of c))) }
 {
@@ -108,17 +105,17 @@ fn covered_at<M: Machine>(
 /// The block that is handed to a step: a row is handed none. The error is want of memory.
 fn hand<M: Machine>(
     alloc: Global,
-    frame: &CallFrame,
+    frame: &CallFrame<M>,
     state: &M::State,
     stand: Stand,
     calls: &[CallState],
     step: u64,
 ) -> Result<Option<CallState>, AllocError>
-    requires frame { IsRunnable M.machine M.State.has_register frame.now }
+    requires frame { IsRunnable frame.now }
     requires blocks { All (λ c. IsBlock M.form (written_call_of c)) calls.now }
     requires calls { AllPairs (λ x y. x.step < y.step) calls.now }
     ensures handed { (stack : List ℕ) → IsStanding stand (map contract_of frame.now.stepped.now) (M.State.view state.now) stack →
-        IfOk result (λ block. option_map written_call_of block ≡ handed stand (frame_in M.machine frame.now)
+        IfOk result (λ block. option_map written_call_of block ≡ handed stand (frame_in frame.now)
         (record { state = M.State.view state.now; stack = [] }) (replays.block_at (map written_call_of calls.now) step)) }
     ensures block { IfOk result (λ block. IfSome block (λ c. IsBlock M.form (written_call_of c))) }
 {
@@ -152,26 +149,26 @@ fn keep(
 /// What is shown of the contract steps that the run of a frame from an entry state makes within its limits. The error is want of memory.
 fn follow<M: Machine>(
     alloc: Global,
-    frame: &CallFrame,
+    frame: &CallFrame<M>,
     entry: &M::State,
     mut state: M::State,
     choices: &[(u64, u8)],
     calls: &[CallState],
     limits: Limits,
 ) -> Result<Vec<CallState>, AllocError>
-    requires frame { IsRunnable M.machine M.State.has_register frame.now }
-    requires lawful { HasLawfulRows (program_of M.machine frame.now.program) }
+    requires frame { IsRunnable frame.now }
+    requires lawful { HasLawfulRows (program_of frame.now.program) }
     requires own { IsOwnAt M.machine.endian frame.now.own (M.State.view entry.now) }
-    requires kept { HasKept (program_of M.machine frame.now.program) (M.State.view entry.now) }
+    requires kept { HasKept (program_of frame.now.program) (M.State.view entry.now) }
     requires rising { AreRising choices.now }
     requires blocks { All (λ c. IsBlock M.form (written_call_of c)) calls.now }
     requires calls { AllPairs (λ x y. x.step < y.step) calls.now }
     requires some { 1 ≤ limits.steps }
     requires same { M.State.view state ≡ M.State.view entry.now }
-    ensures { (registers : ℕ → List ℕ) → AreChanged registers (frame_in M.machine frame.now).stepped →
-        AreListed (frame_in M.machine frame.now) limits.turns (called_start (M.State.view entry.now) choices.now registers (map written_call_of calls.now))
+    ensures { (registers : ℕ → List ℕ) → AreChanged registers (frame_in frame.now).stepped →
+        AreListed (frame_in frame.now) limits.turns (called_start (M.State.view entry.now) choices.now registers (map written_call_of calls.now))
         (map written_call_of calls.now) limits.steps →
-        IfOk result (λ made. map written_call_of made.items ≡ shown_in (frame_in M.machine frame.now) limits.turns
+        IfOk result (λ made. map written_call_of made.items ≡ shown_in (frame_in frame.now) limits.turns
         (called_start (M.State.view entry.now) choices.now registers (map written_call_of calls.now)) (map written_call_of calls.now) limits.steps) }
 {
     let mut stack = Vec::new(alloc);
@@ -212,41 +209,37 @@ fn follow<M: Machine>(
 /// What is shown of the contract steps that the run of a frame from a state makes within its limits. The error is want of memory.
 fn made_ranked<M: Machine>(
     alloc: Global,
-    frame: &RankedFrame,
+    frame: &RankedFrame<M>,
     state: M::State,
     choices: &[(u64, u8)],
     calls: &[CallState],
     limits: Limits,
 ) -> Result<Vec<CallState>, AllocError>
-    requires order { order_of frame.now.image.now ≡ M.machine.endian }
-    requires readable { AreReadable M.State.has_register (notes_of frame.now.notes.now) }
-    requires contracts { All (λ x. IsReadableContract M.State.has_register (contract_of x)) frame.now.contracts.now }
-    requires rank { frame.now.rank ≤ length frame.now.contracts.now }
-    requires kept { HasKept (whole_in M.machine frame.now).program (M.State.view state) }
+    requires kept { HasKept (whole_in frame.now).program (M.State.view state) }
     requires rising { AreRising choices.now }
     requires blocks { All (λ c. IsBlock M.form (written_call_of c)) calls.now }
     requires calls { AllPairs (λ x y. x.step < y.step) calls.now }
     requires some { 1 ≤ limits.steps }
     ensures { (registers : ℕ → List ℕ) → AreChanged registers (map contract_of (take frame.now.rank frame.now.contracts.now)) →
-        AreListed (called_frame (whole_in M.machine frame.now).program (map contract_of (take frame.now.rank frame.now.contracts.now))
+        AreListed (called_frame (whole_in frame.now).program (map contract_of (take frame.now.rank frame.now.contracts.now))
         (slice_get (map contract_of frame.now.contracts.now) frame.now.rank)) limits.turns
         (called_start (M.State.view state) choices.now registers (map written_call_of calls.now)) (map written_call_of calls.now) limits.steps →
-        IfOk result (λ made. IsShownOf (called_frame (whole_in M.machine frame.now).program (map contract_of (take frame.now.rank frame.now.contracts.now))
+        IfOk result (λ made. IsShownOf (called_frame (whole_in frame.now).program (map contract_of (take frame.now.rank frame.now.contracts.now))
         (slice_get (map contract_of frame.now.contracts.now) frame.now.rank)) limits.turns (called_start (M.State.view state) choices.now registers)
         (map written_call_of calls.now) limits.steps (map written_call_of made.items)) }
 {
-    frame.image.bytes();
-    let big = frame.image.is_big_machine();
-    let index = index_of(alloc, frame.notes)?;
+    frame.program.image.bytes();
+    let index = index_of(alloc, frame.program.notes)?;
     let entry = M::copy(alloc, &state)?;
-    let spans = own_spans(alloc, frame.contracts, frame.rank, &entry, big)?;
+    let spans = own_spans(
+        alloc,
+        frame.contracts,
+        frame.rank,
+        &entry,
+        frame.program.big,
+    )?;
     let called = CallFrame {
-        program: Program {
-            image: frame.image,
-            notes: frame.notes,
-            big,
-            function: frame.entry,
-        },
+        program: frame.program,
         index: &index,
         stepped: &frame.contracts[..frame.rank],
         own: own(frame.contracts, frame.rank, &spans),
@@ -268,34 +261,30 @@ fn made_ranked<M: Machine>(
 /// Want of memory.
 pub fn made_calls<M: Machine>(
     alloc: Global,
-    frame: &RankedFrame,
+    frame: &RankedFrame<M>,
     start: &Start,
     calls: &[CallState],
     k: u64,
     limit: u64,
 ) -> Result<Vec<CallState>, AllocError>
-    requires order { order_of frame.now.image.now ≡ M.machine.endian }
-    requires readable { AreReadable M.machine.has_register (notes_of frame.now.notes.now) }
-    requires contracts { All (λ x. IsReadableContract M.machine.has_register (contract_of x)) frame.now.contracts.now }
-    requires rank { frame.now.rank ≤ length frame.now.contracts.now }
-    requires start { IsWritten M.form (is_known_at (frame_of_rank M.machine frame.now).program) (written_of start.now) }
-    requires blocks { All (λ c. IsWrittenCall (whole_in M.machine frame.now) M.form (written_call_of c)) calls.now }
+    requires start { IsWritten M.form (is_known_at (frame_of_rank frame.now).program) (written_of start.now) }
+    requires blocks { All (λ c. IsWrittenCall (whole_in frame.now) M.form (written_call_of c)) calls.now }
     requires calls { AllPairs (λ x y. x.step < y.step) calls.now }
     requires some { 1 ≤ limit }
-    requires listed { AreListed (frame_of_rank M.machine frame.now) k
-        (start_called M.machine M.form frame.now (written_of start.now) (map written_call_of calls.now)) (map written_call_of calls.now) limit }
-    ensures written { IfOk result (λ made. All (λ c. IsWrittenCall (whole_in M.machine frame.now) M.form (written_call_of c)) made.items) }
+    requires listed { AreListed (frame_of_rank frame.now) k
+        (start_called M.form frame.now (written_of start.now) (map written_call_of calls.now)) (map written_call_of calls.now) limit }
+    ensures written { IfOk result (λ made. All (λ c. IsWrittenCall (whole_in frame.now) M.form (written_call_of c)) made.items) }
     ensures rising { IfOk result (λ made. AllPairs (λ x y. x.step < y.step) made.items) }
     ensures alike { (n : ℕ) → n ≤ limit → IfOk result (λ made. AreAlike
-        (runs.run (frame_of_rank M.machine frame.now) k (start_called M.machine M.form frame.now (written_of start.now) (map written_call_of calls.now)) n)
-        (runs.run (frame_of_rank M.machine frame.now) k
-        (start_called M.machine M.form frame.now (written_of start.now) (map written_call_of made.items)) n)) }
-    ensures each { IfOk result (λ made. All (IsMade (frame_of_rank M.machine frame.now) k
-        (start_called M.machine M.form frame.now (written_of start.now) (map written_call_of made.items))) (map written_call_of made.items)) }
+        (runs.run (frame_of_rank frame.now) k (start_called M.form frame.now (written_of start.now) (map written_call_of calls.now)) n)
+        (runs.run (frame_of_rank frame.now) k
+        (start_called M.form frame.now (written_of start.now) (map written_call_of made.items)) n)) }
+    ensures each { IfOk result (λ made. All (IsMade (frame_of_rank frame.now) k
+        (start_called M.form frame.now (written_of start.now) (map written_call_of made.items))) (map written_call_of made.items)) }
     ensures made { (n : ℕ) → n ≤ limit → IsOver
-        (runs.run (frame_of_rank M.machine frame.now) k (start_called M.machine M.form frame.now (written_of start.now) (map written_call_of calls.now)) n) →
-        IfOk result (λ made. AreMade (frame_of_rank M.machine frame.now) k
-        (start_called M.machine M.form frame.now (written_of start.now) (map written_call_of made.items)) (map written_call_of made.items)) }
+        (runs.run (frame_of_rank frame.now) k (start_called M.form frame.now (written_of start.now) (map written_call_of calls.now)) n) →
+        IfOk result (λ made. AreMade (frame_of_rank frame.now) k
+        (start_called M.form frame.now (written_of start.now) (map written_call_of made.items)) (map written_call_of made.items)) }
 {
     let state = called_state::<M>(alloc, frame, start)?;
     let limits = Limits {

@@ -1,5 +1,5 @@
 //! The memory of a start.
-ghost use Rattle.std.specs.Prelude.{◌≡◌, ℕ, ◌≤◌, ◌<◌, ◌^◌, IfOk, OnOk, All, map, length, false};
+ghost use Rattle.std.specs.Prelude.{◌≡◌, ℕ, ◌≤◌, ◌<◌, IfOk, OnOk, All, map, length, false};
 ghost use Rattle.word_spec.specs.Words.{word};
 ghost use Rattle.word_spec.specs.Memory.{memory_of};
 ghost use Rattle.machine_spec.specs.StateText.{AreRising, known_or};
@@ -7,12 +7,13 @@ ghost use Rattle.notes_value.specs.NoteViews.{fixed_of};
 ghost use Rattle.known_bytes.specs.Known.{is_known, given};
 ghost use Rattle.table_run.specs.Known.{IsPut, HasFirst, Fills};
 
-use crate::program::Program;
 use bv_word::Word;
 use byte_mem::{Bytes32, Endian};
 use elf32_reader::{Image, Part};
 use known_bytes::first_given;
+use machine_law::Machine;
 use notes_value::FixedRange;
+use program_value::Program;
 use std::alloc::{AllocError, Global};
 
 /// Stores a byte. The error is want of memory.
@@ -78,9 +79,9 @@ pub(crate) fn memory_given(
 }
 
 /// The memory of a start: the file's byte where it is kept or fixed, else the start's, else 0; addresses wrap. The error is want of memory.
-pub(crate) fn memory_at(
+pub(crate) fn memory_at<M: Machine>(
     alloc: Global,
-    p: &Program,
+    p: &Program<M>,
     bytes: &[(u32, u8)],
 ) -> Result<Bytes32, AllocError>
     requires rising { AreRising bytes.now }

@@ -5,20 +5,20 @@ ghost use Rattle.word_spec.specs.Memory as memory;
 ghost use Rattle.machine_spec.specs.Machine.{addresses};
 ghost use Rattle.model_spec.specs.Reads.{assert_reads, line_reads};
 ghost use Rattle.notes_value.specs.Views.{expr_of};
-ghost use Rattle.notes_value.specs.Reads.{AreReadable, IsReadable};
-ghost use Rattle.notes_value.specs.NoteViews.{assert_of, note_line_of, notes_of};
+ghost use Rattle.notes_value.specs.Reads.{IsReadable};
+ghost use Rattle.notes_value.specs.NoteViews.{assert_of, note_line_of};
 ghost use Rattle.notes_index.specs.Indexed.{AreIndexed, IsIndex, assert_places};
-ghost use Rattle.table_run.specs.Programs.{program_of};
+ghost use Rattle.program_value.specs.Programs.{program_of};
 ghost use Rattle.table_run.specs.Traces.{IsStage, early_reads, reached_row, stage_reads};
 
 use crate::lines::false_assert;
-use crate::program::Program;
 use crate::words::decoded_at;
 use byte_mem::View;
 use file_words::fetchable;
 use machine_law::{Machine, length};
 use notes_index::{Index, group};
 use notes_value::{Assert, NoteLine, add_reads, add_span, value};
+use program_value::Program;
 use std::alloc::{AllocError, Global};
 
 /// When a run reads: before it begins, the require lines; before a step is made, the assert lines of its address and the bytes that its row loads; and before
@@ -91,15 +91,13 @@ pub(crate) fn add_bytes(places: &mut Vec<u32>, bytes: Option<(u32, u8)>) -> Resu
 
 /// The instruction that the next step comes to: none where an assert line is false, where it cannot be fetched, and where the word has no row.
 pub(crate) fn reached<M: Machine>(
-    p: &Program,
+    p: &Program<M>,
     index: &Index,
     entry: &M::State,
     state: &M::State,
 ) -> Option<M::Insn>
-    requires order { memory.endian p.now.big ≡ M.machine.endian }
-    requires readable { AreReadable M.State.has_register (notes_of p.now.notes.now) }
     requires index { AreIndexed p.now.notes.now index.now }
-    ensures { option_map M.Machine.row result ≡ reached_row (program_of M.machine p.now) (M.State.view entry.now) (M.State.view state.now) }
+    ensures { option_map M.Machine.row result ≡ reached_row (program_of p.now) (M.State.view entry.now) (M.State.view state.now) }
 {
     if let Some(_) = false_assert(&p.notes.asserts, &index.asserts, state, entry, p.big) {
         return None;
@@ -114,17 +112,15 @@ pub(crate) fn reached<M: Machine>(
 
 /// Adds the addresses that a step reads before its row is judged. The error is want of memory.
 fn add_step_reads<M: Machine>(
-    p: &Program,
+    p: &Program<M>,
     index: &Index,
     entry: &M::State,
     state: &M::State,
     places: &mut Vec<u32>,
 ) -> Result<(), AllocError>
-    requires order { memory.endian p.now.big ≡ M.machine.endian }
-    requires readable { AreReadable M.State.has_register (notes_of p.now.notes.now) }
     requires index { AreIndexed p.now.notes.now index.now }
     ensures { OnOk result (places.new.items
-        ≡ places.old.items ++ early_reads (program_of M.machine p.now) (M.State.view entry.now) (M.State.view state.now)) }
+        ≡ places.old.items ++ early_reads (program_of p.now) (M.State.view entry.now) (M.State.view state.now)) }
 {
     add_assert_reads(
         &p.notes.asserts,
@@ -146,15 +142,13 @@ fn add_step_reads<M: Machine>(
 /// The addresses that a run reads at a stage, in a state, each as often as it is read. The error is want of memory.
 pub(crate) fn places_read<M: Machine>(
     alloc: Global,
-    p: &Program,
+    p: &Program<M>,
     stage: Stage,
     entry: &M::State,
     state: &M::State,
 ) -> Result<Vec<u32>, AllocError>
-    requires order { memory.endian p.now.big ≡ M.machine.endian }
-    requires readable { AreReadable M.State.has_register (notes_of p.now.notes.now) }
     requires index { IsStage p.now.notes.now stage }
-    ensures { IfOk result (λ v. v.items ≡ stage_reads (program_of M.machine p.now) stage.entry (M.State.view entry.now) (M.State.view state.now)) }
+    ensures { IfOk result (λ v. v.items ≡ stage_reads (program_of p.now) stage.entry (M.State.view entry.now) (M.State.view state.now)) }
 {
     let mut places = Vec::new(alloc);
     match stage {

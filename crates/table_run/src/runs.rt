@@ -1,9 +1,7 @@
 //! A run from a start.
 ghost use Rattle.std.specs.Prelude.{◌≡◌, ℕ, ◌≤◌, ◌<◌, ◌+◌, ◌-◌, ◌^◌, IfOk, IfSome, MatchOption, None, Option, Some, nat_le, option_map, reverse};
 ghost use Rattle.std.specs.List.Sorted.{IsStrictlyIncreasing};
-ghost use Rattle.word_spec.specs.Memory as memory;
 ghost use Rattle.bilv_spec.specs.Elf.{loaded, is_kept};
-ghost use Rattle.bilv_spec.specs.Files.{order_of, program_of as program_of_files};
 ghost use Rattle.bilv_spec.specs.Run as meaning;
 ghost use Rattle.bilv_spec.specs.Points.{is_known_at};
 ghost use Rattle.machine_spec.specs.StateText.{AreRising, IsWritten};
@@ -13,9 +11,7 @@ ghost use Rattle.frame_spec.specs.FrameFound.{found, found_within};
 ghost use Rattle.frame_spec.specs.FrameReports.{head_place};
 ghost use Rattle.bilv_spec.specs.Answers.{start_in};
 ghost use Rattle.start_value.specs.Starts.{written_of};
-ghost use Rattle.notes_value.specs.NoteViews.{notes_of};
-ghost use Rattle.notes_value.specs.Reads.{AreReadable};
-ghost use Rattle.table_run.specs.Programs.{program_of};
+ghost use Rattle.program_value.specs.Programs.{program_of};
 ghost use Rattle.table_run.specs.Endings.{found_of};
 ghost use Rattle.state_text.specs.Starts.{written_head_of};
 ghost use Rattle.table_run.specs.FrameEnds as ends;
@@ -27,12 +23,10 @@ use crate::cuts::{arrival, frame_step, is_head};
 use crate::ending::{Ending, FrameEnding, FrameStepEnd};
 use crate::heads::head_state;
 use crate::memory::memory_at;
-use crate::program::Program;
 use byte_mem::View;
-use elf32_reader::Image;
 use machine_law::Machine;
 use notes_index::{Index, index_of};
-use notes_value::Notes;
+use program_value::Program;
 use start_value::Start;
 use state_text::{FrameEvent, HeadStart};
 use std::alloc::{AllocError, Global};
@@ -62,7 +56,7 @@ pub(crate) fn next_turns(from: u32, to: u32, turns: u64, bound: u64) -> Option<u
 
 /// What the run of a frame from a state comes to within its limits; the last address of the stack is the top. The error is want of memory.
 fn follow<M: Machine>(
-    p: &Program,
+    p: &Program<M>,
     index: &Index,
     invariants: &[u32],
     entry: &M::State,
@@ -71,16 +65,14 @@ fn follow<M: Machine>(
     choices: &[(u64, u8)],
     limits: Limits,
 ) -> Result<FrameEnding, AllocError>
-    requires order { memory.endian p.now.big ≡ M.machine.endian }
-    requires readable { AreReadable M.State.has_register (notes_of p.now.notes.now) }
     requires index { AreIndexed p.now.notes.now index.now }
     requires lines { IsStrictlyIncreasing invariants.now }
     requires rising { AreRising choices.now }
     requires some { 1 ≤ limits.steps }
     ensures { (head : Option meaning.Place) (given : ℕ → Content) → IfOk result (λ e.
-        Begins (frame_of (program_of M.machine p.now) invariants.now) (M.State.view entry.now) head
+        Begins (frame_of (program_of p.now) invariants.now) (M.State.view entry.now) head
         (record { state = M.State.view state; stack = reverse stack.items }) →
-        frame_found_of e ≡ found_within (frame_of (program_of M.machine p.now) invariants.now) limits.turns
+        frame_found_of e ≡ found_within (frame_of (program_of p.now) invariants.now) limits.turns
         (start_by (M.State.view entry.now) choices.now head given) (limits.steps - 1)) }
 {
     let mut turns = 0u64;
@@ -113,20 +105,18 @@ fn follow<M: Machine>(
 /// What the run of a frame from an entry state comes to within its limits: an entry that is a head is arrived at. The error is want of memory.
 fn follow_entry<M: Machine>(
     alloc: Global,
-    p: &Program,
+    p: &Program<M>,
     index: &Index,
     invariants: &[u32],
     state: M::State,
     choices: &[(u64, u8)],
     limits: Limits,
 ) -> Result<FrameEnding, AllocError>
-    requires order { memory.endian p.now.big ≡ M.machine.endian }
-    requires readable { AreReadable M.State.has_register (notes_of p.now.notes.now) }
     requires index { AreIndexed p.now.notes.now index.now }
     requires lines { IsStrictlyIncreasing invariants.now }
     requires rising { AreRising choices.now }
     requires some { 1 ≤ limits.steps }
-    ensures { (given : ℕ → Content) → IfOk result (λ e. frame_found_of e ≡ found_within (frame_of (program_of M.machine p.now) invariants.now)
+    ensures { (given : ℕ → Content) → IfOk result (λ e. frame_found_of e ≡ found_within (frame_of (program_of p.now) invariants.now)
         limits.turns (start_by (M.State.view state) choices.now None given) (limits.steps - 1)) }
 {
     if is_head(p, index, invariants, state.pc()) {
@@ -146,7 +136,7 @@ fn follow_entry<M: Machine>(
     Ok(ending)
 }
 
-/// The state of a start at an address: its registers and flags, and in memory the file's byte where it is kept or fixed, else the start's, else 0. The start is
+/// The state of a start at a program's function: its registers and flags, and in memory the file's byte where it is kept or fixed, else the start's, else 0. The start is
 /// one that can be written. It takes memory for that state.
 ///
 /// # Errors
@@ -154,23 +144,15 @@ fn follow_entry<M: Machine>(
 /// Want of memory.
 pub fn start_state<M: Machine>(
     alloc: Global,
-    image: &Image,
-    notes: &Notes,
-    entry: u32,
+    program: &Program<M>,
     start: &Start,
 ) -> Result<M::State, AllocError>
-    requires { IsWritten M.form (is_known_at (program_of_files M.machine image.now (notes_of notes.now) entry)) (written_of start.now) }
+    requires { IsWritten M.form (is_known_at (program_of program.now)) (written_of start.now) }
     ensures { IfOk result (λ s.
-        M.State.view s ≡ (start_in (program_of_files M.machine image.now (notes_of notes.now) entry) M.form (written_of start.now)).state) }
+        M.State.view s ≡ (start_in (program_of program.now) M.form (written_of start.now)).state) }
 {
-    let p = Program {
-        image,
-        notes,
-        big: image.is_big_machine(),
-        function: entry,
-    };
-    let memory = memory_at(alloc, &p, &start.bytes)?;
-    Ok(M::make(start, entry, memory))
+    let memory = memory_at(alloc, program, &start.bytes)?;
+    Ok(M::make(start, program.entry, memory))
 }
 
 /// How many backward transfers are within a bound, or, without one, within so many steps.
@@ -187,22 +169,20 @@ pub(crate) fn turns_within(k: Option<u64>, limit: u64) -> u64
 /// What the run of a frame from a head state comes to within its limits. The error is want of memory.
 fn follow_head<M: Machine>(
     alloc: Global,
-    p: &Program,
+    p: &Program<M>,
     index: &Index,
     invariants: &[u32],
     entry: &M::State,
     head: &HeadStart,
     limits: Limits,
 ) -> Result<FrameEnding, AllocError>
-    requires order { memory.endian p.now.big ≡ M.machine.endian }
-    requires readable { AreReadable M.State.has_register (notes_of p.now.notes.now) }
     requires index { AreIndexed p.now.notes.now index.now }
     requires lines { IsStrictlyIncreasing invariants.now }
     requires head { IsWritten M.form (λ a. is_kept (loaded p.now.image.now a)) (written_of head.now.start) }
     requires some { 1 ≤ limits.steps }
-    ensures { (given : ℕ → Content) → IfOk result (λ e. frame_found_of e ≡ found_within (frame_of (program_of M.machine p.now) invariants.now)
+    ensures { (given : ℕ → Content) → IfOk result (λ e. frame_found_of e ≡ found_within (frame_of (program_of p.now) invariants.now)
         limits.turns (start_by (M.State.view entry.now) (written_of head.now.start).choices
-        (Some (head_place (program_of M.machine p.now) M.form (written_head_of head.now))) given) (limits.steps - 1)) }
+        (Some (head_place (program_of p.now) M.form (written_head_of head.now))) given) (limits.steps - 1)) }
 {
     let state = head_state::<M>(alloc, p.image, head)?;
     let mut stack = Vec::new(alloc);
@@ -232,33 +212,23 @@ fn follow_head<M: Machine>(
 /// Want of memory.
 pub fn run_frame<M: Machine>(
     alloc: Global,
-    image: &Image,
-    notes: &Notes,
+    program: &Program<M>,
     invariants: &[u32],
-    entry: u32,
     start: &Start,
     head: Option<&HeadStart>,
     k: Option<u64>,
     limit: u64,
 ) -> Result<FrameEnding, AllocError>
-    requires order { order_of image.now ≡ M.machine.endian }
-    requires readable { AreReadable M.machine.has_register (notes_of notes.now) }
     requires lines { IsStrictlyIncreasing invariants.now }
     requires some { 1 ≤ limit }
-    requires start { IsWritten M.form (is_known_at (program_of_files M.machine image.now (notes_of notes.now) entry)) (written_of start.now) }
-    requires head { IfSome head (λ h. IsWritten M.form (λ a. is_kept (loaded image.now a)) (written_of h.now.start)) }
-    ensures { IfOk result (λ e. frame_found_of e ≡ found (frame_of (program_of_files M.machine image.now (notes_of notes.now) entry) invariants.now) k
-        (start_shown (program_of_files M.machine image.now (notes_of notes.now) entry) invariants.now M.form (written_of start.now)
+    requires start { IsWritten M.form (is_known_at (program_of program.now)) (written_of start.now) }
+    requires head { IfSome head (λ h. IsWritten M.form (λ a. is_kept (loaded program.now.image.now a)) (written_of h.now.start)) }
+    ensures { IfOk result (λ e. frame_found_of e ≡ found (frame_of (program_of program.now) invariants.now) k
+        (start_shown (program_of program.now) invariants.now M.form (written_of start.now)
         (option_map (λ h. written_head_of h.now) head.entry)) (limit - 1)) }
 {
-    let p = Program {
-        image,
-        notes,
-        big: image.is_big_machine(),
-        function: entry,
-    };
-    let index = index_of(alloc, notes)?;
-    let state = start_state::<M>(alloc, image, notes, entry, start)?;
+    let index = index_of(alloc, program.notes)?;
+    let state = start_state::<M>(alloc, program, start)?;
     let limits = Limits {
         turns: turns_within(k, limit),
         steps: limit,
@@ -267,7 +237,7 @@ pub fn run_frame<M: Machine>(
         None => {
             let ending = follow_entry::<M>(
                 alloc,
-                &p,
+                program,
                 &index,
                 invariants,
                 state,
@@ -277,7 +247,9 @@ pub fn run_frame<M: Machine>(
             Ok(ending)
         }
         Some(head) => {
-            let ending = follow_head::<M>(alloc, &p, &index, invariants, &state, head, limits)?;
+            let ending = follow_head::<M>(
+                alloc, program, &index, invariants, &state, head, limits,
+            )?;
             Ok(ending)
         }
     }
@@ -314,20 +286,16 @@ fn of_tables(ending: FrameEnding) -> Ending
 /// Want of memory.
 pub fn run<M: Machine>(
     alloc: Global,
-    image: &Image,
-    notes: &Notes,
-    entry: u32,
+    program: &Program<M>,
     start: &Start,
     k: Option<u64>,
     limit: u64,
 ) -> Result<Ending, AllocError>
-    requires order { order_of image.now ≡ M.machine.endian }
-    requires readable { AreReadable M.machine.has_register (notes_of notes.now) }
     requires some { 1 ≤ limit }
-    requires start { IsWritten M.form (is_known_at (program_of_files M.machine image.now (notes_of notes.now) entry)) (written_of start.now) }
-    ensures { IfOk result (λ e. found_of e ≡ reports.found (program_of_files M.machine image.now (notes_of notes.now) entry) k
-        (start_in (program_of_files M.machine image.now (notes_of notes.now) entry) M.form (written_of start.now)) (limit - 1)) }
+    requires start { IsWritten M.form (is_known_at (program_of program.now)) (written_of start.now) }
+    ensures { IfOk result (λ e. found_of e ≡ reports.found (program_of program.now) k
+        (start_in (program_of program.now) M.form (written_of start.now)) (limit - 1)) }
 {
-    let ending = run_frame::<M>(alloc, image, notes, &[], entry, start, None, k, limit)?;
+    let ending = run_frame::<M>(alloc, program, &[], start, None, k, limit)?;
     Ok(of_tables(ending))
 }

@@ -6,9 +6,7 @@ ghost use Rattle.machine_spec.specs.Machine.{Row};
 ghost use Rattle.machine_spec.specs.MachineLaws.{IsLawful, IsWay};
 ghost use Rattle.bilv_spec.specs.Run as meaning;
 ghost use Rattle.byte_mem.specs.Views.{IsStep};
-ghost use Rattle.notes_value.specs.NoteViews.{notes_of};
-ghost use Rattle.notes_value.specs.Reads.{AreReadable};
-ghost use Rattle.table_run.specs.Programs.{program_of};
+ghost use Rattle.program_value.specs.Programs.{program_of};
 ghost use Rattle.notes_index.specs.Indexed.{AreIndexed};
 ghost use Rattle.table_run.specs.Steps.{IsStepEnd, IsBefore, way_of};
 ghost use Rattle.table_run.specs.Traces.{unjudged};
@@ -16,21 +14,19 @@ ghost use Rattle.table_run.specs.Traces.{unjudged};
 use crate::ending::StepEnd;
 use crate::jumps::{Before, is_named, look};
 use crate::lines::{false_assert, false_line};
-use crate::program::Program;
 use crate::words::{decoded_at, is_place, writes_kept};
 use byte_mem::{How, StepOut, View};
 use file_words::fetchable;
 use machine_law::{Machine, length};
 use notes_index::Index;
+use program_value::Program;
 use state_text::Event;
 use std::alloc::AllocError;
 
 /// The exit in a state, judged by the ensure lines.
-pub(crate) fn exit<M: Machine>(p: &Program, entry: &M::State, state: &M::State) -> StepEnd
-    requires order { memory.endian p.now.big ≡ M.machine.endian }
-    requires readable { AreReadable M.State.has_register (notes_of p.now.notes.now) }
+pub(crate) fn exit<M: Machine>(p: &Program<M>, entry: &M::State, state: &M::State) -> StepEnd
     ensures { (stack : List ℕ) → IsStepEnd result (M.State.view state.now) stack
-        (meaning.exit (program_of M.machine p.now) (M.State.view entry.now) (M.State.view state.now)) }
+        (meaning.exit (program_of p.now) (M.State.view entry.now) (M.State.view state.now)) }
 {
     match false_line(&p.notes.ensured, state, entry, p.big) {
         None => StepEnd::Exits,
@@ -41,19 +37,17 @@ pub(crate) fn exit<M: Machine>(p: &Program, entry: &M::State, state: &M::State) 
 /// The step of an indirect jump that is no call, to the state's address: a return to the stack's top, the exit where the stack is empty, which is not judged,
 /// or a named target.
 fn leave<M: Machine>(
-    p: &Program,
+    p: &Program<M>,
     index: &Index,
     before: Before,
     entry: &M::State,
     state: &M::State,
     stack: &mut Vec<u32>,
 ) -> StepEnd
-    requires order { memory.endian p.now.big ≡ M.machine.endian }
-    requires readable { AreReadable M.State.has_register (notes_of p.now.notes.now) }
     requires index { AreIndexed p.now.notes.now index.now }
-    ensures { (row : Row) (old : State) → IsBefore (program_of M.machine p.now) row old before → (row.successors old.pc).indirect ≡ true →
+    ensures { (row : Row) (old : State) → IsBefore (program_of p.now) row old before → (row.successors old.pc).indirect ≡ true →
         IsStepEnd result (M.State.view state.now) (reverse stack.new.items)
-        (meaning.leave (unjudged (program_of M.machine p.now)) (M.State.view entry.now) row old (reverse stack.old.items) (M.State.view state.now)) }
+        (meaning.leave (unjudged (program_of p.now)) (M.State.view entry.now) row old (reverse stack.old.items) (M.State.view state.now)) }
 {
     let to = state.pc();
     let count = stack.len();
@@ -73,7 +67,7 @@ fn leave<M: Machine>(
 
 /// The step of a row that went on to a state; an exit is not judged. The error is want of memory.
 fn go_on<M: Machine>(
-    p: &Program,
+    p: &Program<M>,
     index: &Index,
     before: Before,
     how: Option<How>,
@@ -81,13 +75,11 @@ fn go_on<M: Machine>(
     state: &M::State,
     stack: &mut Vec<u32>,
 ) -> Result<StepEnd, AllocError>
-    requires order { memory.endian p.now.big ≡ M.machine.endian }
-    requires readable { AreReadable M.State.has_register (notes_of p.now.notes.now) }
     requires index { AreIndexed p.now.notes.now index.now }
-    ensures { IfOk result (λ end. (row : Row) (old : State) → IsBefore (program_of M.machine p.now) row old before →
+    ensures { IfOk result (λ end. (row : Row) (old : State) → IsBefore (program_of p.now) row old before →
         IsWay (row.successors old.pc) (way_of how) (M.State.view state.now).pc →
         IsStepEnd end (M.State.view state.now) (reverse stack.new.items)
-        (meaning.going_on false (unjudged (program_of M.machine p.now)) (M.State.view entry.now) row old (reverse stack.old.items) (way_of how)
+        (meaning.going_on false (unjudged (program_of p.now)) (M.State.view entry.now) row old (reverse stack.old.items) (way_of how)
         (M.State.view state.now))) }
 {
     let to = state.pc();
@@ -138,7 +130,7 @@ fn raised(writes_kept: bool, event: Event) -> StepEnd
 
 /// The step of an instruction, of so many bytes, under a choice; an exit is not judged. The error is want of memory.
 fn row_step<M: Machine>(
-    p: &Program,
+    p: &Program<M>,
     index: &Index,
     insn: &M::Insn,
     length: u8,
@@ -147,14 +139,12 @@ fn row_step<M: Machine>(
     stack: &mut Vec<u32>,
     choice: u8,
 ) -> Result<StepEnd, AllocError>
-    requires order { memory.endian p.now.big ≡ M.machine.endian }
-    requires readable { AreReadable M.State.has_register (notes_of p.now.notes.now) }
     requires index { AreIndexed p.now.notes.now index.now }
     requires lawful { IsLawful (M.Machine.row insn.now) }
     requires length { length ≡ (M.Machine.row insn.now).length }
     ensures { IfOk result (λ end. IsStepEnd end (M.State.view state.new) (reverse stack.new.items)
-        (meaning.after_row (unjudged (program_of M.machine p.now)) (M.State.view entry.now) (M.Machine.row insn.now) (M.State.view state.old)
-        (reverse stack.old.items) (meaning.writes_kept (program_of M.machine p.now) (M.Machine.row insn.now) (M.State.view state.old))
+        (meaning.after_row (unjudged (program_of p.now)) (M.State.view entry.now) (M.Machine.row insn.now) (M.State.view state.old)
+        (reverse stack.old.items) (meaning.writes_kept (program_of p.now) (M.Machine.row insn.now) (M.State.view state.old))
         ((M.Machine.row insn.now).effect (M.State.view state.old) choice))) }
 {
     let before = look::<M>(p, insn, length, state);
@@ -177,18 +167,16 @@ fn row_step<M: Machine>(
 /// One step under a choice, for a run that began in the state at entry; an exit is not judged. The state and the stack, whose last address is the top, are
 /// those that the step leaves. The error is want of memory.
 pub(crate) fn walk<M: Machine>(
-    p: &Program,
+    p: &Program<M>,
     index: &Index,
     entry: &M::State,
     state: &mut M::State,
     stack: &mut Vec<u32>,
     choice: u8,
 ) -> Result<StepEnd, AllocError>
-    requires order { memory.endian p.now.big ≡ M.machine.endian }
-    requires readable { AreReadable M.State.has_register (notes_of p.now.notes.now) }
     requires index { AreIndexed p.now.notes.now index.now }
     ensures end { IfOk result (λ end. IsStepEnd end (M.State.view state.new) (reverse stack.new.items)
-        (meaning.step (unjudged (program_of M.machine p.now)) (M.State.view entry.now)
+        (meaning.step (unjudged (program_of p.now)) (M.State.view entry.now)
         (record { state = M.State.view state.old; stack = reverse stack.old.items }) choice)) }
 {
     if let Some(line) = false_assert(&p.notes.asserts, &index.asserts, state, entry, p.big) {
@@ -212,18 +200,16 @@ pub(crate) fn walk<M: Machine>(
 /// One step under a choice, for a run that began in the state at entry. The state and the stack, whose last address is the top, are those that the step leaves.
 /// The error is want of memory.
 pub(crate) fn step<M: Machine>(
-    p: &Program,
+    p: &Program<M>,
     index: &Index,
     entry: &M::State,
     state: &mut M::State,
     stack: &mut Vec<u32>,
     choice: u8,
 ) -> Result<StepEnd, AllocError>
-    requires order { memory.endian p.now.big ≡ M.machine.endian }
-    requires readable { AreReadable M.State.has_register (notes_of p.now.notes.now) }
     requires index { AreIndexed p.now.notes.now index.now }
     ensures end { IfOk result (λ end. IsStepEnd end (M.State.view state.new) (reverse stack.new.items)
-        (meaning.step (program_of M.machine p.now) (M.State.view entry.now)
+        (meaning.step (program_of p.now) (M.State.view entry.now)
         (record { state = M.State.view state.old; stack = reverse stack.old.items }) choice)) }
 {
     match walk::<M>(p, index, entry, state, stack, choice)? {

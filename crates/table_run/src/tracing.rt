@@ -1,11 +1,9 @@
 //! A run from the state of a model, and the bytes that it reads.
 ghost use Rattle.std.specs.Prelude.{◌≡◌, ℕ, ◌≤◌, ◌+◌, ◌++◌, true, List, [], IfOk, reverse};
-ghost use Rattle.word_spec.specs.Memory as memory;
 ghost use Rattle.word_spec.specs.Memory.{byte_in};
 ghost use Rattle.word_spec.specs.State.{State};
 ghost use Rattle.machine_spec.specs.Machine.{Row};
 ghost use Rattle.machine_spec.specs.StateText.{AreRising};
-ghost use Rattle.bilv_spec.specs.Files.{order_of, program_of as program_of_files};
 ghost use Rattle.bilv_spec.specs.PointLaws.{HasLawfulRows};
 ghost use Rattle.bilv_spec.specs.Points.{file_row};
 ghost use Rattle.bilv_spec.specs.Questions.{Reading, by_file, read_run};
@@ -14,10 +12,8 @@ ghost use Rattle.model_spec.specs.Models.{all_reads};
 ghost use Rattle.model_spec.specs.Reads.{step_reads};
 ghost use Rattle.machine_law.specs.Facts.{IsFit};
 ghost use Rattle.start_value.specs.Starts.{written_of};
-ghost use Rattle.notes_value.specs.NoteViews.{notes_of};
-ghost use Rattle.notes_value.specs.Reads.{AreReadable};
 ghost use Rattle.notes_index.specs.Indexed.{AreIndexed};
-ghost use Rattle.table_run.specs.Programs.{program_of};
+ghost use Rattle.program_value.specs.Programs.{program_of};
 ghost use Rattle.table_run.specs.Traces.{AreListed, ComesTo, IsModelState, IsOver, IsReadSet, IsRunAt, IsTracedEnd, TakesChoices, bytes_over, last_of};
 
 use crate::choices::choice_at;
@@ -25,15 +21,13 @@ use crate::ending::{Ending, StepEnd};
 use crate::filling::{Filled, meet_stored, read_stage};
 use crate::memory::memory_at;
 use crate::model_bytes::{ModelBytes, byte_of};
-use crate::program::Program;
 use crate::reads::Stage;
 use crate::runs::{Limits, next_turns};
 use crate::steps::{exit, walk};
 use byte_mem::View;
-use elf32_reader::Image;
 use machine_law::Machine;
 use notes_index::{Index, index_of};
-use notes_value::Notes;
+use program_value::Program;
 use start_value::Start;
 use std::alloc::{AllocError, Global};
 use std::collections::BTreeSet;
@@ -49,17 +43,17 @@ pub struct Traced {
 /// The run of a model before anything is read. The error is want of memory.
 fn begin<M: Machine>(
     alloc: Global,
-    p: &Program,
+    p: &Program<M>,
     start: &Start,
 ) -> Result<Filled<M::State>, AllocError>
     requires { IsFit M.form (written_of start.now) }
-    ensures read { IfOk result (λ t. IsReadSet (program_of M.machine p.now) [] t.read) }
-    ensures begun { (fill : ℕ) (bytes : List (ℕ × ℕ)) (s : State) → IsModelState (program_of M.machine p.now) M.form (written_of start.now) fill bytes s →
-        IfOk result (λ t. IsRunAt (program_of M.machine p.now) s t.met (M.State.view t.entry) (M.State.view t.state) []
+    ensures read { IfOk result (λ t. IsReadSet (program_of p.now) [] t.read) }
+    ensures begun { (fill : ℕ) (bytes : List (ℕ × ℕ)) (s : State) → IsModelState (program_of p.now) M.form (written_of start.now) fill bytes s →
+        IfOk result (λ t. IsRunAt (program_of p.now) s t.met (M.State.view t.entry) (M.State.view t.state) []
         (record { state = s; stack = [] })) }
 {
     let memory = memory_at(alloc, p, &[])?;
-    let state = M::make(start, p.function, memory);
+    let state = M::make(start, p.entry, memory);
     let entry = M::copy(alloc, &state)?;
     Ok(Filled {
         entry,
@@ -93,26 +87,24 @@ fn listed(
 /// One step under a choice. What it reads is filled before it is read. The error is want of memory.
 fn traced_step<M: Machine>(
     alloc: Global,
-    p: &Program,
+    p: &Program<M>,
     index: &Index,
     model: &ModelBytes,
     t: &mut Filled<M::State>,
     stack: &mut Vec<u32>,
     choice: u8,
 ) -> Result<StepEnd, AllocError>
-    requires order { memory.endian p.now.big ≡ M.machine.endian }
-    requires readable { AreReadable M.State.has_register (notes_of p.now.notes.now) }
     requires index { AreIndexed p.now.notes.now index.now }
-    requires lawful { HasLawfulRows (program_of M.machine p.now) }
+    requires lawful { HasLawfulRows (program_of p.now) }
     requires rising { AreRising model.now.bytes.now }
     ensures { (begun : State) (c : meaning.Place) (drawn : ℕ) (before : List ℕ) →
-        IsOver (program_of M.machine p.now) model.now.fill model.now.bytes.now begun.mem →
-        IsRunAt (program_of M.machine p.now) begun t.old.met (M.State.view t.old.entry) (M.State.view t.old.state) (reverse stack.old.items) c →
-        ((row : Row) → file_row (program_of M.machine p.now) c.state.pc ≡ Some row → row.draws ≡ true → drawn ≡ choice) →
-        IsReadSet (program_of M.machine p.now) before t.old.read →
-        IfOk result (λ end. IsTracedEnd (program_of M.machine p.now) begun t.new.met (M.State.view t.new.entry) (M.State.view t.new.state)
-        (reverse stack.new.items) end (meaning.step (by_file (program_of M.machine p.now)) begun c drawn)
-        × IsReadSet (program_of M.machine p.now) (before ++ step_reads (by_file (program_of M.machine p.now)) begun c drawn) t.new.read) }
+        IsOver (program_of p.now) model.now.fill model.now.bytes.now begun.mem →
+        IsRunAt (program_of p.now) begun t.old.met (M.State.view t.old.entry) (M.State.view t.old.state) (reverse stack.old.items) c →
+        ((row : Row) → file_row (program_of p.now) c.state.pc ≡ Some row → row.draws ≡ true → drawn ≡ choice) →
+        IsReadSet (program_of p.now) before t.old.read →
+        IfOk result (λ end. IsTracedEnd (program_of p.now) begun t.new.met (M.State.view t.new.entry) (M.State.view t.new.state)
+        (reverse stack.new.items) end (meaning.step (by_file (program_of p.now)) begun c drawn)
+        × IsReadSet (program_of p.now) (before ++ step_reads (by_file (program_of p.now)) begun c drawn) t.new.read) }
 {
     read_stage::<M>(alloc, p, model, t, Stage::Step(index))?;
     meet_stored::<M>(alloc, p, index, model, t)?;
@@ -129,27 +121,25 @@ fn traced_step<M: Machine>(
 /// What the run comes to within its limits. The error is want of memory.
 fn follow_model<M: Machine>(
     alloc: Global,
-    p: &Program,
+    p: &Program<M>,
     index: &Index,
     model: &ModelBytes,
     t: &mut Filled<M::State>,
     choices: &[(u64, u8)],
     limits: Limits,
 ) -> Result<Ending, AllocError>
-    requires order { memory.endian p.now.big ≡ M.machine.endian }
-    requires readable { AreReadable M.State.has_register (notes_of p.now.notes.now) }
     requires index { AreIndexed p.now.notes.now index.now }
-    requires lawful { HasLawfulRows (program_of M.machine p.now) }
+    requires lawful { HasLawfulRows (program_of p.now) }
     requires rising { AreRising model.now.bytes.now }
     requires choices { AreRising choices.now }
     requires some { 1 ≤ limits.steps }
-    ensures { (r : Reading) → IsOver (program_of M.machine p.now) model.now.fill model.now.bytes.now r.state.mem →
-        TakesChoices (program_of M.machine p.now) limits.turns r (byte_in choices.now) →
-        IsRunAt (program_of M.machine p.now) r.state t.old.met (M.State.view t.old.entry) (M.State.view t.old.state) []
+    ensures { (r : Reading) → IsOver (program_of p.now) model.now.fill model.now.bytes.now r.state.mem →
+        TakesChoices (program_of p.now) limits.turns r (byte_in choices.now) →
+        IsRunAt (program_of p.now) r.state t.old.met (M.State.view t.old.entry) (M.State.view t.old.state) []
         (record { state = r.state; stack = [] }) →
-        IsReadSet (program_of M.machine p.now) (all_reads (program_of M.machine p.now) limits.turns r 0) t.old.read →
-        IfOk result (λ e. ComesTo (read_run (program_of M.machine p.now) limits.turns r) limits.steps e
-        × IsReadSet (program_of M.machine p.now) (all_reads (program_of M.machine p.now) limits.turns r (last_of e + 1)) t.new.read) }
+        IsReadSet (program_of p.now) (all_reads (program_of p.now) limits.turns r 0) t.old.read →
+        IfOk result (λ e. ComesTo (read_run (program_of p.now) limits.turns r) limits.steps e
+        × IsReadSet (program_of p.now) (all_reads (program_of p.now) limits.turns r (last_of e + 1)) t.new.read) }
 {
     let mut stack = Vec::new(alloc);
     let mut turns = 0u64;
@@ -175,39 +165,29 @@ fn follow_model<M: Machine>(
 
 /// The bytes of a model's memory that the require lines read, but for those that the file gives and for those that are 0, by rising addresses. The model has
 /// the registers and flags of a start, whose bytes and choices play no part; the bytes that the file gives; and else the listed byte of an address, or the
-/// fill. It is an entry state of the function at `entry`. The listed addresses rise. It takes memory for two states and for the addresses that are read.
+/// fill. It is an entry state of the program's function. The listed addresses rise. It takes memory for two states and for the addresses that are read.
 ///
 /// # Errors
 ///
 /// Want of memory.
 pub fn required_bytes<M: Machine>(
     alloc: Global,
-    image: &Image,
-    notes: &Notes,
-    entry: u32,
+    program: &Program<M>,
     start: &Start,
     fill: u8,
     bytes: &[(u32, u8)],
 ) -> Result<Vec<(u32, u8)>, AllocError>
-    requires order { order_of image.now ≡ M.machine.endian }
-    requires readable { AreReadable M.machine.has_register (notes_of notes.now) }
     requires fit { IsFit M.form (written_of start.now) }
     requires rising { AreRising bytes.now }
     ensures bytes { (k : ℕ) (r : Reading) →
-        IsModelState (program_of_files M.machine image.now (notes_of notes.now) entry) M.form (written_of start.now) fill bytes.now r.state →
-        IfOk result (λ v. AreListed (program_of_files M.machine image.now (notes_of notes.now) entry) r.state.mem
-        (all_reads (program_of_files M.machine image.now (notes_of notes.now) entry) k r 0) v.items) }
+        IsModelState (program_of program.now) M.form (written_of start.now) fill bytes.now r.state →
+        IfOk result (λ v. AreListed (program_of program.now) r.state.mem
+        (all_reads (program_of program.now) k r 0) v.items) }
     ensures rising { IfOk result (λ v. AreRising v.items) }
 {
-    let p = Program {
-        image,
-        notes,
-        big: image.is_big_machine(),
-        function: entry,
-    };
     let model = ModelBytes { fill, bytes };
-    let mut t = begin::<M>(alloc, &p, start)?;
-    read_stage::<M>(alloc, &p, &model, &mut t, Stage::Entry)?;
+    let mut t = begin::<M>(alloc, program, start)?;
+    read_stage::<M>(alloc, program, &model, &mut t, Stage::Entry)?;
     let bytes = listed(alloc, &model, &t.read)?;
     Ok(bytes)
 }
@@ -221,48 +201,46 @@ pub fn required_bytes<M: Machine>(
 /// Want of memory.
 pub fn trace<M: Machine>(
     alloc: Global,
-    image: &Image,
-    notes: &Notes,
-    entry: u32,
+    program: &Program<M>,
     start: &Start,
     fill: u8,
     bytes: &[(u32, u8)],
     k: u64,
     limit: u64,
 ) -> Result<Traced, AllocError>
-    requires order { order_of image.now ≡ M.machine.endian }
-    requires readable { AreReadable M.machine.has_register (notes_of notes.now) }
     requires some { 1 ≤ limit }
     requires fit { IsFit M.form (written_of start.now) }
     requires choices { AreRising (written_of start.now).choices }
     requires rising { AreRising bytes.now }
-    requires lawful { HasLawfulRows (program_of_files M.machine image.now (notes_of notes.now) entry) }
+    requires lawful { HasLawfulRows (program_of program.now) }
     ensures ending { (r : Reading) →
-        IsModelState (program_of_files M.machine image.now (notes_of notes.now) entry) M.form (written_of start.now) fill bytes.now r.state →
-        TakesChoices (program_of_files M.machine image.now (notes_of notes.now) entry) k r (byte_in (written_of start.now).choices) →
-        IfOk result (λ t. ComesTo (read_run (program_of_files M.machine image.now (notes_of notes.now) entry) k r) limit t.ending) }
+        IsModelState (program_of program.now) M.form (written_of start.now) fill bytes.now r.state →
+        TakesChoices (program_of program.now) k r (byte_in (written_of start.now).choices) →
+        IfOk result (λ t. ComesTo (read_run (program_of program.now) k r) limit t.ending) }
     ensures bytes { (r : Reading) →
-        IsModelState (program_of_files M.machine image.now (notes_of notes.now) entry) M.form (written_of start.now) fill bytes.now r.state →
-        TakesChoices (program_of_files M.machine image.now (notes_of notes.now) entry) k r (byte_in (written_of start.now).choices) →
-        IfOk result (λ t. AreListed (program_of_files M.machine image.now (notes_of notes.now) entry) r.state.mem
-        (all_reads (program_of_files M.machine image.now (notes_of notes.now) entry) k r (last_of t.ending + 1)) t.bytes.items) }
+        IsModelState (program_of program.now) M.form (written_of start.now) fill bytes.now r.state →
+        TakesChoices (program_of program.now) k r (byte_in (written_of start.now).choices) →
+        IfOk result (λ t. AreListed (program_of program.now) r.state.mem
+        (all_reads (program_of program.now) k r (last_of t.ending + 1)) t.bytes.items) }
     ensures rising { IfOk result (λ t. AreRising t.bytes.items) }
 {
-    let p = Program {
-        image,
-        notes,
-        big: image.is_big_machine(),
-        function: entry,
-    };
-    let index = index_of(alloc, notes)?;
+    let index = index_of(alloc, program.notes)?;
     let model = ModelBytes { fill, bytes };
-    let mut t = begin::<M>(alloc, &p, start)?;
-    read_stage::<M>(alloc, &p, &model, &mut t, Stage::Entry)?;
+    let mut t = begin::<M>(alloc, program, start)?;
+    read_stage::<M>(alloc, program, &model, &mut t, Stage::Entry)?;
     let limits = Limits {
         turns: k,
         steps: limit,
     };
-    let ending = follow_model::<M>(alloc, &p, &index, &model, &mut t, &start.choices, limits)?;
+    let ending = follow_model::<M>(
+        alloc,
+        program,
+        &index,
+        &model,
+        &mut t,
+        &start.choices,
+        limits,
+    )?;
     let bytes = listed(alloc, &model, &t.read)?;
     Ok(Traced { ending, bytes })
 }

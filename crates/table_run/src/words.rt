@@ -1,18 +1,18 @@
 //! Bytes that are stored, whether one of them is kept; and bytes at an address in a state, what is decoded of them, and whether that may be fetched.
-ghost use Rattle.std.specs.Prelude.{◌≡◌, ◌^◌};
+ghost use Rattle.std.specs.Prelude.{◌≡◌};
 ghost use Rattle.std.specs.Bool.{MatchBool};
 ghost use Rattle.std.specs.List.{list_any};
 ghost use Rattle.word_spec.specs.Memory as memory;
 ghost use Rattle.machine_spec.specs.Machine as table;
 ghost use Rattle.machine_spec.specs.Machine.{addresses, IsAtPlace};
 ghost use Rattle.bilv_spec.specs.Elf.{loaded, is_kept};
-ghost use Rattle.table_run.specs.Programs.{program_of};
+ghost use Rattle.program_value.specs.Programs.{program_of};
 
-use crate::program::Program;
 use byte_mem::{Endian, View};
 use elf32_reader::Image;
 use machine_law::{Machine, is_narrow, taken};
 use notes_value::order;
+use program_value::Program;
 
 /// One of the bytes that are stored is kept: `stored` is the first address and the number of bytes.
 pub(crate) fn writes_kept(image: &Image, stored: Option<(u32, u8)>) -> bool
@@ -46,9 +46,8 @@ fn word<V: View>(state: &V, a: u32, big: bool) -> u32
 }
 
 /// What is decoded at an address in a state.
-pub(crate) fn decoded_at<M: Machine>(p: &Program, state: &M::State, a: u32) -> u32
-    requires { memory.endian p.now.big ≡ M.machine.endian }
-    ensures { result ≡ (program_of M.machine p.now).word (M.State.view state.now) a }
+pub(crate) fn decoded_at<M: Machine>(p: &Program<M>, state: &M::State, a: u32) -> u32
+    ensures { result ≡ (program_of p.now).word (M.State.view state.now) a }
 {
     taken::<M>(word(state, a, p.big))
 }

@@ -46,7 +46,8 @@ pub steps_among : (xs : List Contract) (a : ℕ) → is_some (contract_at (map s
 steps_among [] a = refl
 steps_among (x ∷ xs) a = some_by x xs a (x.at == a) refl (steps_among xs a)
 
-pub frame_is : (m : Machine) (file : List ℕ) (n : Notes) (entry : ℕ) (asked : ℕ → Bool) (parts : FrameParts) (g : Graph) (heads lent steps : List ℕ) →
+pub frame_is : {M I S : _} {d : _} {v : _} (m : Machine) (file : List ℕ) (n : Notes) (entry : ℕ) (asked : ℕ → Bool) (parts : FrameParts M I S d v) (g : Graph)
+    (heads lent steps : List ℕ) →
     IsGraph (program_asking m file n entry asked) g → IsLawfulMachine m → ((i : ℕ) → slice_index file i < 256) →
     ((x : ℕ) → Contains (head_places parts.invariants.now n.asserts) x ↔ Contains heads x) → lent ≡ heads →
     steps ≡ map (λ (x : Contract). x.at) parts.stepped.now →

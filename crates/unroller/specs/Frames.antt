@@ -6,7 +6,7 @@ use Rattle.notes_value.specs.FrameViews.{contract_of}
 use Rattle.unroller.specs.declared.unrolling.FrameParts.{FrameParts}
 
 -- Its runs are cut at its heads, its calls of some contracts are stepped over, and it may be the frame of a contract.
-abbrev pub parts_frame : Program → FrameParts → Frame
+abbrev pub parts_frame : {M I S : _} {m : _} {v : _} → Program → FrameParts M I S m v → Frame
 parts_frame p parts = record {
   program = p;
   invariants = parts.invariants.now;

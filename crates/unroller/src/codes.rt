@@ -25,6 +25,7 @@ use file_words::{all_kept, file_word};
 use graph_nodes::{Graph, Node, node_at};
 use machine_law::Machine;
 use notes_index::group;
+use program_value::Program;
 use question_form::Code;
 use std::alloc::{AllocError, Global};
 
@@ -103,25 +104,24 @@ struct RowList {
 /// of its load, which costs nothing then. The error is want of memory.
 fn listed<M: Machine>(
     alloc: Global,
-    image: &Image,
+    program: &Program<M>,
     insn: &M::Insn,
     node: &Node,
 ) -> Result<RowList, AllocError>
-    requires { order_of image.now ≡ M.machine.endian }
-    ensures list { (n : Notes) (e : ℕ) (o : ℕ → Bool) (always : ℕ) → IsKeptWith (program_asking M.machine image.now n e o) always node.now →
-        IfOk result (λ l. IsListWith (program_asking M.machine image.now n e o) M.bank always (M.Machine.row insn.now) node.now.at (statements l.list.items)) }
+    ensures list { (n : Notes) (e : ℕ) (o : ℕ → Bool) (always : ℕ) → IsKeptWith (program_asking M.machine program.now.image.now n e o) always node.now →
+        IfOk result (λ l. IsListWith (program_asking M.machine program.now.image.now n e o) M.bank always (M.Machine.row insn.now) node.now.at (statements l.list.items)) }
     ensures loads { (n : Notes) (e : ℕ) (o : ℕ → Bool) → IfOk result (λ l.
-        l.loads ≡ loads_at (program_asking M.machine image.now n e o) node.now.at (Some (M.Machine.row insn.now))) }
+        l.loads ≡ loads_at (program_asking M.machine program.now.image.now n e o) node.now.at (Some (M.Machine.row insn.now))) }
 {
     let lifted = M::lift(alloc, insn, node.at)?;
     let trimmed = with_flags(lifted, alloc, node.keeps)?;
-    match kept_literal::<M>(image, insn, node.at) {
+    match kept_literal::<M>(program.image, insn, node.at) {
         None => Ok(RowList {
             list: trimmed,
             loads: M::cost(insn).loads,
         }),
         Some(place) => {
-            let list = with_literal(&trimmed, alloc, word_at(image, place))?;
+            let list = with_literal(&trimmed, alloc, word_at(program.image, place))?;
             Ok(RowList { list, loads: 0 })
         }
     }
@@ -131,16 +131,15 @@ fn listed<M: Machine>(
 /// error is want of memory.
 pub fn code_at<M: Machine>(
     alloc: Global,
-    image: &Image,
+    program: &Program<M>,
     node: &Node,
     asserts: (usize, usize),
 ) -> Result<Code, AllocError>
-    requires { order_of image.now ≡ M.machine.endian }
     ensures at { IfOk result (λ c. c.at ≡ node.now.at) }
     ensures asserts { IfOk result (λ c. c.asserts ≡ asserts) }
-    ensures row { (n : Notes) (e : ℕ) (o : ℕ → Bool) (always : ℕ) → IsNode (program_asking M.machine image.now n e o) node.now →
-        IsKeptWith (program_asking M.machine image.now n e o) always node.now →
-        IfOk result (λ c. IsRowCode (program_asking M.machine image.now n e o) M.bank always c) }
+    ensures row { (n : Notes) (e : ℕ) (o : ℕ → Bool) (always : ℕ) → IsNode (program_asking M.machine program.now.image.now n e o) node.now →
+        IsKeptWith (program_asking M.machine program.now.image.now n e o) always node.now →
+        IfOk result (λ c. IsRowCode (program_asking M.machine program.now.image.now n e o) M.bank always c) }
 {
     let word = match node.word {
         None => return Ok(bare(node, asserts)),
@@ -150,7 +149,7 @@ pub fn code_at<M: Machine>(
         None => return Ok(bare(node, asserts)),
         Some(insn) => insn,
     };
-    let listed = listed::<M>(alloc, image, &insn, node)?;
+    let listed = listed::<M>(alloc, program, &insn, node)?;
     let cost = M::cost(&insn);
     Ok(Code {
         at: node.at,
@@ -169,18 +168,17 @@ pub fn code_at<M: Machine>(
 /// of memory.
 pub fn codes_at<M: Machine>(
     alloc: Global,
-    image: &Image,
+    program: &Program<M>,
     graph: &Graph,
     addresses: &[u32],
     asserts: &[(u32, usize)],
 ) -> Result<Vec<Code>, AllocError>
-    requires order { order_of image.now ≡ M.machine.endian }
     requires nodes { AreRising graph.now.nodes.items }
     requires among { (a : ℕ) → Contains addresses.now a → Contains (addresses_of graph.now) a }
     requires sorted { IsNonDecreasingBy (λ x. x.0) asserts.now }
-    ensures { (n : Notes) (e : ℕ) (o : ℕ → Bool) (always : ℕ) → IsGraph (program_asking M.machine image.now n e o) graph.now →
-        LiveStayWith (program_asking M.machine image.now n e o) always graph.now →
-        IfOk result (λ v. AreCodes (program_asking M.machine image.now n e o) M.bank always addresses.now asserts.now (length addresses.now) v.items) }
+    ensures { (n : Notes) (e : ℕ) (o : ℕ → Bool) (always : ℕ) → IsGraph (program_asking M.machine program.now.image.now n e o) graph.now →
+        LiveStayWith (program_asking M.machine program.now.image.now n e o) always graph.now →
+        IfOk result (λ v. AreCodes (program_asking M.machine program.now.image.now n e o) M.bank always addresses.now asserts.now (length addresses.now) v.items) }
 {
     let mut codes: Vec<Code> = Vec::with_capacity(alloc, addresses.len())?;
     for at in addresses {
@@ -188,7 +186,7 @@ pub fn codes_at<M: Machine>(
             None => unreachable!(),
             Some(node) => node,
         };
-        let code = code_at::<M>(alloc, image, node, group(asserts, *at))?;
+        let code = code_at::<M>(alloc, program, node, group(asserts, *at))?;
         codes.push(code)?;
     }
     Ok(codes)

@@ -2,9 +2,8 @@
 ghost use Rattle.std.specs.Prelude.{◌≡◌, ◌↔◌, ◌≤◌, ◌<◌, ◌^◌, ℕ, Bool, true, false, [], None, IfOk, IfErr, Contains, filter, length, map, slice_index_or};
 ghost use Rattle.std.specs.List.Sorted.{IsNonDecreasingBy, IsStrictlyIncreasing};
 ghost use Rattle.bilv_spec.specs.Elf.{IsKeptRuns};
-ghost use Rattle.bilv_spec.specs.Files.{order_of, program_of};
 ghost use Rattle.bilv_spec.specs.Notes.{Notes as SpecNotes};
-ghost use Rattle.bilv_spec.specs.Run.{Program};
+ghost use Rattle.bilv_spec.specs.Run as tables;
 ghost use Rattle.flag_live.specs.Asked.{unasked};
 ghost use Rattle.flag_live.specs.Keeps.{LiveStayWith};
 ghost use Rattle.graph_nodes.specs.Graphs.{IsFlagSet, IsGraph, addresses_of};
@@ -20,7 +19,8 @@ ghost use Rattle.question_form.specs.Forms.{AreRootsFormed, AreStepsFormed, IsFo
 ghost use Rattle.question_form.specs.FrameViews.{IsHeadless, frame_unrolled_of};
 ghost use Rattle.question_form.specs.Views.{unrolled_of};
 ghost use Rattle.question_form.specs.declared.unrolled.Root.{Root};
-ghost use Rattle.unroller.specs.Asking.{frame_of, program_asking};
+ghost use Rattle.program_value.specs.Programs.{program_of};
+ghost use Rattle.unroller.specs.Asking.{asking, frame_of, program_asking};
 ghost use Rattle.unroller.specs.Frames.{parts_frame};
 ghost use Rattle.unroller.specs.Heads.{head_places};
 ghost use Rattle.unroller.specs.Keys.{address_of, is_of};
@@ -45,8 +45,9 @@ use graph_nodes::Graph;
 use known_bytes::known_bytes;
 use machine_law::{Machine, is_narrow};
 use notes_index::index_of;
-use notes_value::{Contract, Notes};
+use notes_value::Contract;
 use program_points::{Cuts, PointsFault};
+use program_value::Program;
 use question_form::{Code, Unrolled};
 use std::alloc::{AllocError, Global};
 
@@ -77,14 +78,13 @@ fn no_contracts<'a>() -> &'a [Contract]
     &[]
 }
 
-/// What makes a frame, besides a file: its notes, the numbers of those assert lines that are invariants, its address, the contracts that its calls step over, in
-/// the order of their ranks, and the contract whose frame it is, if it is one's; and all contracts of the notes. The notes are the frame's: of a contract's frame
-/// they require what the contract needs, and ensure and fix nothing.
-#[derive(Clone, Copy)]
-pub struct FrameParts<'a> {
-    pub notes: &'a Notes,
+/// What makes a frame: its program, the numbers of those assert lines that are invariants, the contracts that its calls step over, in the order of their ranks,
+/// and the contract whose frame it is, if it is one's; and all contracts of the notes. The program is the frame's: of a contract's frame its function is the
+/// contract's, and its notes require what the contract needs, and ensure and fix nothing.
+#[derive_where(Clone, Copy)]
+pub struct FrameParts<'a, M: Machine> {
+    pub program: Program<'a, M>,
     pub invariants: &'a [u32],
-    pub entry: u32,
     pub stepped: &'a [Contract],
     pub own: Option<&'a Contract>,
     pub contracts: &'a [Contract],
@@ -105,8 +105,8 @@ fn always_kept(contracts: &[Contract]) -> u8
 /// The graph in which the assignments of flags stay that are live, where those of the set `out` are asked for at the exit, and those of the set `always`. The
 /// error is want of memory.
 fn live_graph(alloc: Global, graph: &Graph, out: u8, always: u8) -> Result<Graph, AllocError>
-    ensures graph { (p : Program) → IsFlagSet out p.out → IsGraph (unasked p) graph.now → IfOk result (λ t. IsGraph p t) }
-    ensures live { (p : Program) → IsFlagSet out p.out → IsGraph (unasked p) graph.now → IfOk result (λ t. LiveStayWith p always t) }
+    ensures graph { (p : tables.Program) → IsFlagSet out p.out → IsGraph (unasked p) graph.now → IfOk result (λ t. IsGraph p t) }
+    ensures live { (p : tables.Program) → IsFlagSet out p.out → IsGraph (unasked p) graph.now → IfOk result (λ t. LiveStayWith p always t) }
 {
     let trimmed = trim(alloc, graph, out)?;
     let kept = keep(alloc, &trimmed, always)?;
@@ -121,12 +121,12 @@ struct CutPlaces {
 }
 
 /// The places of a frame's cuts. The error is want of memory.
-fn cut_places(alloc: Global, parts: &FrameParts) -> Result<CutPlaces, AllocError>
-    ensures heads { IfOk result (λ v. (x : ℕ) → Contains (head_places parts.now.invariants.now (notes_of parts.now.notes.now).asserts) x
+fn cut_places<M: Machine>(alloc: Global, parts: &FrameParts<M>) -> Result<CutPlaces, AllocError>
+    ensures heads { IfOk result (λ v. (x : ℕ) → Contains (head_places parts.now.invariants.now (notes_of parts.now.program.notes.now).asserts) x
         ↔ Contains v.heads.items x) }
     ensures stepped { IfOk result (λ v. v.stepped.items ≡ map (λ x. x.at) parts.now.stepped.now) }
 {
-    let heads = heads(alloc, parts.notes, parts.invariants)?;
+    let heads = heads(alloc, parts.program.notes, parts.invariants)?;
     let stepped = contract_addresses(alloc, parts.stepped)?;
     Ok(CutPlaces { heads, stepped })
 }
@@ -156,26 +156,25 @@ fn code_places(alloc: Global, keys: &[u128]) -> Result<CodePlaces, AllocError>
 /// addresses. The error is want of memory.
 fn all_codes<M: Machine>(
     alloc: Global,
-    image: &Image,
+    program: &Program<M>,
     graph: &Graph,
     coded: Coded,
     asserts: &[(u32, usize)],
     contracts: &[Contract],
     stepped: &[u32],
 ) -> Result<Vec<Code>, AllocError>
-    requires order { order_of image.now ≡ M.machine.endian }
     requires nodes { AreRising graph.now.nodes.items }
     requires rows { (a : ℕ) → Contains coded.rows.now a → Contains (addresses_of graph.now) a }
     requires sorted { IsNonDecreasingBy (λ x. x.0) asserts.now }
     requires stepped { stepped.now ≡ map (λ x. x.at) contracts.now }
     requires steps { (a : ℕ) → Contains coded.steps.now a → Contains stepped.now a }
     requires few { (x : ListedContract) → Contains contracts.now x → WritesFew x }
-    ensures { (n : SpecNotes) (e : ℕ) (o : ℕ → Bool) (always : ℕ) → IsGraph (program_asking M.machine image.now n e o) graph.now →
-        LiveStayWith (program_asking M.machine image.now n e o) always graph.now →
-        IfOk result (λ v. AreAllCodes (program_asking M.machine image.now n e o) M.bank always contracts.now stepped.now coded.entry.rows.now
+    ensures { (n : SpecNotes) (e : ℕ) (o : ℕ → Bool) (always : ℕ) → IsGraph (program_asking M.machine program.now.image.now n e o) graph.now →
+        LiveStayWith (program_asking M.machine program.now.image.now n e o) always graph.now →
+        IfOk result (λ v. AreAllCodes (program_asking M.machine program.now.image.now n e o) M.bank always contracts.now stepped.now coded.entry.rows.now
         coded.entry.steps.now asserts.now v.items) }
 {
-    let mut codes = codes_at::<M>(alloc, image, graph, coded.rows, asserts)?;
+    let mut codes = codes_at::<M>(alloc, program, graph, coded.rows, asserts)?;
     add_codes(&mut codes, contracts, stepped, coded.steps)?;
     Ok(codes)
 }
@@ -189,25 +188,23 @@ fn all_codes<M: Machine>(
 fn unroll_with<'a, M: Machine>(
     alloc: Global,
     graph: &Graph,
-    image: &'a Image<'a>,
-    parts: &FrameParts<'a>,
+    parts: &FrameParts<'a, M>,
     out: u8,
     k: u64,
     max: u64,
 ) -> Result<Unrolled<'a>, PointsFault>
-    requires order { order_of image.now ≡ M.machine.endian }
     requires max { max ≤ 16777216 }
     requires k { k ≤ 4096 }
     requires out { out < 16 }
-    requires graph { IsGraph (program_of M.machine image.now (notes_of parts.now.notes.now) parts.now.entry) graph.now }
+    requires graph { IsGraph (program_of parts.now.program) graph.now }
     requires few { (x : ListedContract) → Contains parts.now.stepped.now x → WritesFew x }
     ensures unrolled { (asked : ℕ → Bool) → IsFlagSet out asked → IfOk result (λ u.
-        frames.IsUnrolling (parts_frame (program_asking M.machine image.now (notes_of parts.now.notes.now) parts.now.entry asked) parts.now)
+        frames.IsUnrolling (parts_frame (asking (program_of parts.now.program) asked) parts.now)
         (map contract_of parts.now.contracts.now) k (frame_unrolled_of u)) }
     ensures lists { (asked : ℕ → Bool) → IsFlagSet out asked → parts.now.stepped.now ≡ [] → parts.now.contracts.now ≡ [] →
-        IfOk result (λ u. HasListsOf (program_asking M.machine image.now (notes_of parts.now.notes.now) parts.now.entry asked) M.bank (unrolled_of u)) }
+        IfOk result (λ u. HasListsOf (asking (program_of parts.now.program) asked) M.bank (unrolled_of u)) }
     ensures lean { (asked : ℕ → Bool) → IsFlagSet out asked → parts.now.stepped.now ≡ [] → parts.now.contracts.now ≡ [] →
-        IfOk result (λ u. AssignsLiveOnly (program_asking M.machine image.now (notes_of parts.now.notes.now) parts.now.entry asked) (unrolled_of u)) }
+        IfOk result (λ u. AssignsLiveOnly (asking (program_of parts.now.program) asked) (unrolled_of u)) }
     ensures formed { IfOk result (λ u. IsFormed u) }
     ensures roots { IfOk result (λ u. AreRootsFormed u) }
     ensures steps { IfOk result (λ u. AreStepsFormed u) }
@@ -215,7 +212,7 @@ fn unroll_with<'a, M: Machine>(
     ensures stepped { IfOk result (λ u. u.stepped ≡ parts.now.stepped) }
     ensures owned { IfOk result (λ u. u.own ≡ parts.now.own) }
     ensures heads { IfOk result (λ u.
-        u.heads ≡ has_heads (parts_frame (program_of M.machine image.now (notes_of parts.now.notes.now) parts.now.entry) parts.now)) }
+        u.heads ≡ has_heads (parts_frame (program_of parts.now.program) parts.now)) }
     ensures own { IfOk result (λ u. BeginAtOwn u) }
     ensures first { IfOk result (λ u. IsEntryFirst u) }
     ensures headed { IfOk result (λ u. u.heads ≡ false → (x : Root) → Contains u.roots.items x → x.head ≡ None) }
@@ -227,20 +224,20 @@ fn unroll_with<'a, M: Machine>(
     ensures beyond { (x : ℕ) → 2 ^ 32 ≤ x → IfOk result (λ u. byte_of_runs (unrolled_of u).known x ≡ None) }
     ensures headless { parts.now.invariants.now ≡ [] → parts.now.stepped.now ≡ [] → parts.now.own ≡ None → IfOk result (λ u. IsHeadless u) }
     ensures more { (asked : ℕ → Bool) → IsFlagSet out asked →
-        IfErr result (HasTooMany (parts_frame (program_asking M.machine image.now (notes_of parts.now.notes.now) parts.now.entry asked) parts.now) k max) }
+        IfErr result (HasTooMany (parts_frame (asking (program_of parts.now.program) asked) parts.now) k max) }
 {
-    image.bytes();
+    parts.program.image.bytes();
     let live = live_graph(alloc, graph, out, always_kept(parts.contracts))?;
     let places = cut_places(alloc, parts)?;
     let cuts = Cuts {
         heads: &places.heads,
         stepped: &places.stepped,
     };
-    let listed = number_points(alloc, &live, &cuts, parts.entry, k, max)?;
+    let listed = number_points(alloc, &live, &cuts, parts.program.entry, k, max)?;
     let keys = listed.keys;
     let mut stacks = listed.stacks;
     let addresses = code_places(alloc, &keys)?;
-    let index = index_of(alloc, parts.notes)?;
+    let index = index_of(alloc, parts.program.notes)?;
     let called = calls(alloc, &live, &mut stacks, &keys)?;
     let coded = Coded {
         rows: &addresses.rows,
@@ -248,15 +245,21 @@ fn unroll_with<'a, M: Machine>(
     };
     let codes = all_codes::<M>(
         alloc,
-        image,
+        &parts.program,
         &live,
         coded,
         &index.asserts,
         parts.stepped,
         &places.stepped,
     )?;
-    let literals = literals_at::<M>(alloc, image, &live, &addresses.rows)?;
-    let roots = roots_of(alloc, &listed.segments, &keys, &index.asserts, parts.entry)?;
+    let literals = literals_at::<M>(alloc, parts.program.image, &live, &addresses.rows)?;
+    let roots = roots_of(
+        alloc,
+        &listed.segments,
+        &keys,
+        &index.asserts,
+        parts.program.entry,
+    )?;
     let aims = Aims {
         heads: &places.heads,
         stepped: &places.stepped,
@@ -264,20 +267,20 @@ fn unroll_with<'a, M: Machine>(
         keys: &keys,
     };
     let placed = points_of(alloc, &live, &stacks.frames, &aims, coded, &called)?;
-    let known = known_bytes(alloc, image, parts.notes)?;
+    let known = known_bytes(alloc, parts.program.image, parts.program.notes)?;
     Ok(Unrolled {
         form: M::layout(),
-        big: image.is_big_machine(),
+        big: parts.program.big,
         narrow: is_narrow::<M>(),
         link: M::link(),
-        entry: parts.entry,
-        notes: parts.notes,
+        entry: parts.program.entry,
+        notes: parts.program.notes,
         invariants: parts.invariants,
         heads: !places.heads.is_empty(),
         stepped: parts.stepped,
         own: parts.own,
         asserts: index.asserts,
-        kept: kept(image),
+        kept: kept(parts.program.image),
         known: known.runs,
         literals,
         frames: stacks.frames,
@@ -297,24 +300,21 @@ fn unroll_with<'a, M: Machine>(
 pub fn unroll_asking<'a, M: Machine>(
     alloc: Global,
     graph: &Graph,
-    image: &'a Image<'a>,
-    notes: &'a Notes,
-    entry: u32,
+    program: &Program<'a, M>,
     out: u8,
     k: u64,
     max: u64,
 ) -> Result<Unrolled<'a>, PointsFault>
-    requires order { order_of image.now ≡ M.machine.endian }
     requires max { max ≤ 16777216 }
     requires k { k ≤ 4096 }
     requires out { out < 16 }
-    requires graph { IsGraph (program_of M.machine image.now (notes_of notes.now) entry) graph.now }
+    requires graph { IsGraph (program_of program.now) graph.now }
     ensures unrolled { (asked : ℕ → Bool) → IsFlagSet out asked →
-        IfOk result (λ u. IsUnrolling (program_asking M.machine image.now (notes_of notes.now) entry asked) k (unrolled_of u)) }
+        IfOk result (λ u. IsUnrolling (asking (program_of program.now) asked) k (unrolled_of u)) }
     ensures lists { (asked : ℕ → Bool) → IsFlagSet out asked →
-        IfOk result (λ u. HasListsOf (program_asking M.machine image.now (notes_of notes.now) entry asked) M.bank (unrolled_of u)) }
+        IfOk result (λ u. HasListsOf (asking (program_of program.now) asked) M.bank (unrolled_of u)) }
     ensures lean { (asked : ℕ → Bool) → IsFlagSet out asked →
-        IfOk result (λ u. AssignsLiveOnly (program_asking M.machine image.now (notes_of notes.now) entry asked) (unrolled_of u)) }
+        IfOk result (λ u. AssignsLiveOnly (asking (program_of program.now) asked) (unrolled_of u)) }
     ensures formed { IfOk result (λ u. IsFormed u) }
     ensures roots { IfOk result (λ u. AreRootsFormed u) }
     ensures few { IfOk result (λ u. length u.points.items ≤ max) }
@@ -325,17 +325,16 @@ pub fn unroll_asking<'a, M: Machine>(
     ensures beyond { (x : ℕ) → 2 ^ 32 ≤ x → IfOk result (λ u. byte_of_runs (unrolled_of u).known x ≡ None) }
     ensures headless { IfOk result (λ u. IsHeadless u) }
     ensures more { (asked : ℕ → Bool) → IsFlagSet out asked →
-        IfErr result (IsTooMany (program_asking M.machine image.now (notes_of notes.now) entry asked) k max) }
+        IfErr result (IsTooMany (asking (program_of program.now) asked) k max) }
 {
     let parts = FrameParts {
-        notes,
+        program: *program,
         invariants: no_invariants(),
-        entry,
         stepped: no_contracts(),
         own: None,
         contracts: no_contracts(),
     };
-    let unrolled = unroll_with::<M>(alloc, graph, image, &parts, out, k, max)?;
+    let unrolled = unroll_with::<M>(alloc, graph, &parts, out, k, max)?;
     Ok(unrolled)
 }
 
@@ -351,19 +350,16 @@ pub fn unroll_asking<'a, M: Machine>(
 pub fn unroll<'a, M: Machine>(
     alloc: Global,
     graph: &Graph,
-    image: &'a Image<'a>,
-    notes: &'a Notes,
-    entry: u32,
+    program: &Program<'a, M>,
     k: u64,
     max: u64,
 ) -> Result<Unrolled<'a>, PointsFault>
-    requires order { order_of image.now ≡ M.machine.endian }
     requires max { max ≤ 16777216 }
     requires k { k ≤ 4096 }
-    requires graph { IsGraph (program_of M.machine image.now (notes_of notes.now) entry) graph.now }
-    ensures unrolled { IfOk result (λ u. IsUnrolling (program_of M.machine image.now (notes_of notes.now) entry) k (unrolled_of u)) }
-    ensures lists { IfOk result (λ u. HasListsOf (program_of M.machine image.now (notes_of notes.now) entry) M.bank (unrolled_of u)) }
-    ensures lean { IfOk result (λ u. AssignsLiveOnly (program_of M.machine image.now (notes_of notes.now) entry) (unrolled_of u)) }
+    requires graph { IsGraph (program_of program.now) graph.now }
+    ensures unrolled { IfOk result (λ u. IsUnrolling (program_of program.now) k (unrolled_of u)) }
+    ensures lists { IfOk result (λ u. HasListsOf (program_of program.now) M.bank (unrolled_of u)) }
+    ensures lean { IfOk result (λ u. AssignsLiveOnly (program_of program.now) (unrolled_of u)) }
     ensures formed { IfOk result (λ u. IsFormed u) }
     ensures roots { IfOk result (λ u. AreRootsFormed u) }
     ensures few { IfOk result (λ u. length u.points.items ≤ max) }
@@ -373,9 +369,9 @@ pub fn unroll<'a, M: Machine>(
     ensures runs { IfOk result (λ u. AreRuns u.known.items) }
     ensures beyond { (x : ℕ) → 2 ^ 32 ≤ x → IfOk result (λ u. byte_of_runs (unrolled_of u).known x ≡ None) }
     ensures headless { IfOk result (λ u. IsHeadless u) }
-    ensures more { IfErr result (IsTooMany (program_of M.machine image.now (notes_of notes.now) entry) k max) }
+    ensures more { IfErr result (IsTooMany (program_of program.now) k max) }
 {
-    let unrolled = unroll_asking::<M>(alloc, graph, image, notes, entry, 0, k, max)?;
+    let unrolled = unroll_asking::<M>(alloc, graph, program, 0, k, max)?;
     Ok(unrolled)
 }
 
@@ -389,25 +385,22 @@ pub fn unroll<'a, M: Machine>(
 pub fn unroll_frame<'a, M: Machine>(
     alloc: Global,
     graph: &Graph,
-    image: &'a Image<'a>,
-    notes: &'a Notes,
+    program: &Program<'a, M>,
     invariants: &'a [u32],
-    entry: u32,
     k: u64,
     max: u64,
 ) -> Result<Unrolled<'a>, PointsFault>
-    requires order { order_of image.now ≡ M.machine.endian }
     requires max { max ≤ 16777216 }
     requires k { k ≤ 4096 }
-    requires graph { IsGraph (program_of M.machine image.now (notes_of notes.now) entry) graph.now }
+    requires graph { IsGraph (program_of program.now) graph.now }
     ensures unrolled { IfOk result (λ u.
-        frames.IsUnrolling (frame_of (program_of M.machine image.now (notes_of notes.now) entry) invariants.now) [] k (frame_unrolled_of u)) }
-    ensures lists { IfOk result (λ u. HasListsOf (program_of M.machine image.now (notes_of notes.now) entry) M.bank (unrolled_of u)) }
-    ensures lean { IfOk result (λ u. AssignsLiveOnly (program_of M.machine image.now (notes_of notes.now) entry) (unrolled_of u)) }
+        frames.IsUnrolling (frame_of (program_of program.now) invariants.now) [] k (frame_unrolled_of u)) }
+    ensures lists { IfOk result (λ u. HasListsOf (program_of program.now) M.bank (unrolled_of u)) }
+    ensures lean { IfOk result (λ u. AssignsLiveOnly (program_of program.now) (unrolled_of u)) }
     ensures formed { IfOk result (λ u. IsFormed u) }
     ensures roots { IfOk result (λ u. AreRootsFormed u) }
     ensures steps { IfOk result (λ u. AreStepsFormed u) }
-    ensures heads { IfOk result (λ u. u.heads ≡ has_heads (frame_of (program_of M.machine image.now (notes_of notes.now) entry) invariants.now)) }
+    ensures heads { IfOk result (λ u. u.heads ≡ has_heads (frame_of (program_of program.now) invariants.now)) }
     ensures own { IfOk result (λ u. BeginAtOwn u) }
     ensures first { IfOk result (λ u. IsEntryFirst u) }
     ensures headed { IfOk result (λ u. u.heads ≡ false → (x : Root) → Contains u.roots.items x → x.head ≡ None) }
@@ -417,17 +410,16 @@ pub fn unroll_frame<'a, M: Machine>(
     ensures layout { IfOk result (λ u. layout_of u.form ≡ M.form) }
     ensures runs { IfOk result (λ u. AreRuns u.known.items) }
     ensures beyond { (x : ℕ) → 2 ^ 32 ≤ x → IfOk result (λ u. byte_of_runs (frame_unrolled_of u).known x ≡ None) }
-    ensures more { IfErr result (HasTooMany (frame_of (program_of M.machine image.now (notes_of notes.now) entry) invariants.now) k max) }
+    ensures more { IfErr result (HasTooMany (frame_of (program_of program.now) invariants.now) k max) }
 {
     let parts = FrameParts {
-        notes,
+        program: *program,
         invariants,
-        entry,
         stepped: no_contracts(),
         own: None,
         contracts: no_contracts(),
     };
-    let unrolled = unroll_contracted::<M>(alloc, graph, image, &parts, k, max)?;
+    let unrolled = unroll_contracted::<M>(alloc, graph, &parts, k, max)?;
     Ok(unrolled)
 }
 
@@ -440,30 +432,28 @@ pub fn unroll_frame<'a, M: Machine>(
 pub fn unroll_contracted<'a, M: Machine>(
     alloc: Global,
     graph: &Graph,
-    image: &'a Image<'a>,
-    parts: &FrameParts<'a>,
+    parts: &FrameParts<'a, M>,
     k: u64,
     max: u64,
 ) -> Result<Unrolled<'a>, PointsFault>
-    requires order { order_of image.now ≡ M.machine.endian }
     requires max { max ≤ 16777216 }
     requires k { k ≤ 4096 }
-    requires graph { IsGraph (program_of M.machine image.now (notes_of parts.now.notes.now) parts.now.entry) graph.now }
+    requires graph { IsGraph (program_of parts.now.program) graph.now }
     requires few { (x : ListedContract) → Contains parts.now.stepped.now x → WritesFew x }
     ensures unrolled { IfOk result (λ u.
-        frames.IsUnrolling (parts_frame (program_of M.machine image.now (notes_of parts.now.notes.now) parts.now.entry) parts.now)
+        frames.IsUnrolling (parts_frame (program_of parts.now.program) parts.now)
         (map contract_of parts.now.contracts.now) k (frame_unrolled_of u)) }
     ensures lists { parts.now.stepped.now ≡ [] → parts.now.contracts.now ≡ [] →
-        IfOk result (λ u. HasListsOf (program_of M.machine image.now (notes_of parts.now.notes.now) parts.now.entry) M.bank (unrolled_of u)) }
+        IfOk result (λ u. HasListsOf (program_of parts.now.program) M.bank (unrolled_of u)) }
     ensures lean { parts.now.stepped.now ≡ [] → parts.now.contracts.now ≡ [] →
-        IfOk result (λ u. AssignsLiveOnly (program_of M.machine image.now (notes_of parts.now.notes.now) parts.now.entry) (unrolled_of u)) }
+        IfOk result (λ u. AssignsLiveOnly (program_of parts.now.program) (unrolled_of u)) }
     ensures formed { IfOk result (λ u. IsFormed u) }
     ensures roots { IfOk result (λ u. AreRootsFormed u) }
     ensures steps { IfOk result (λ u. AreStepsFormed u) }
     ensures stepped { IfOk result (λ u. u.stepped ≡ parts.now.stepped) }
     ensures owned { IfOk result (λ u. u.own ≡ parts.now.own) }
     ensures heads { IfOk result (λ u.
-        u.heads ≡ has_heads (parts_frame (program_of M.machine image.now (notes_of parts.now.notes.now) parts.now.entry) parts.now)) }
+        u.heads ≡ has_heads (parts_frame (program_of parts.now.program) parts.now)) }
     ensures own { IfOk result (λ u. BeginAtOwn u) }
     ensures first { IfOk result (λ u. IsEntryFirst u) }
     ensures headed { IfOk result (λ u. u.heads ≡ false → (x : Root) → Contains u.roots.items x → x.head ≡ None) }
@@ -473,8 +463,8 @@ pub fn unroll_contracted<'a, M: Machine>(
     ensures layout { IfOk result (λ u. layout_of u.form ≡ M.form) }
     ensures runs { IfOk result (λ u. AreRuns u.known.items) }
     ensures beyond { (x : ℕ) → 2 ^ 32 ≤ x → IfOk result (λ u. byte_of_runs (frame_unrolled_of u).known x ≡ None) }
-    ensures more { IfErr result (HasTooMany (parts_frame (program_of M.machine image.now (notes_of parts.now.notes.now) parts.now.entry) parts.now) k max) }
+    ensures more { IfErr result (HasTooMany (parts_frame (program_of parts.now.program) parts.now) k max) }
 {
-    let unrolled = unroll_with::<M>(alloc, graph, image, parts, 0, k, max)?;
+    let unrolled = unroll_with::<M>(alloc, graph, parts, 0, k, max)?;
     Ok(unrolled)
 }

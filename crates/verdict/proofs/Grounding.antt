@@ -1,6 +1,6 @@
 -- What is had of an unrolled program of a file, and of its passive program: the laws of its rows, the sizes of its machine, its price, and terms that can be
 -- made of it.
-use Rattle.std.proofs.Common.{◌≡◌, refl, sym, ap, subst, ◌∙◌, ℕ, zero, suc, ◌+◌, ◌-◌, ◌<◌, ◌≤◌, ◌^◌, Bool, true, false, List, [], ◌∷◌, Some, None, Result, Ok, Err, IfOk, arith}
+use Rattle.std.proofs.Common.{◌≡◌, refl, sym, ap, subst, ◌∙◌, ℕ, suc, ◌+◌, ◌-◌, ◌<◌, ◌≤◌, ◌^◌, Bool, true, false, List, [], ◌∷◌, Some, None, Result, Ok, Err, IfOk, arith}
 use Rattle.std.specs.Prelude.{if◌then◌else◌, nat_lt, length, map, slice_index, IsTrue, min}
 use Rattle.std.proofs.lemmas.Bool.Decides.{nat_tests}
 use Rattle.std.proofs.lemmas.List.{length-map}
@@ -8,7 +8,6 @@ use Rattle.std.proofs.lemmas.List.Elements.{All-contains}
 use Rattle.bilv_spec.specs.Files.{program_of}
 use Rattle.machine_spec.specs.Machine.{Machine}
 use Rattle.machine_spec.specs.MachineLaws.{IsLawfulMachine, IsFitted}
-use Rattle.word_spec.specs.RowFiles.{from_to}
 use Rattle.bilv_spec.specs.Notes.{Notes, NoteLine, Assert, Expr, Number, Register, Flag, Pc, Bound, Memory, Old, Not, Binary}
 use Rattle.machine_spec.specs.StateText.{Layout, last_step}
 use Rattle.bilv_spec.specs.Run.{Program}
@@ -39,19 +38,19 @@ use Rattle.unroller.proofs.FileRows.{file_rows_lawful}
 use Rattle.notes_value.specs.Reads.{IsOver, AreOver}
 use Rattle.walk_laws.proofs.InputPlaces.{range_length}
 use Rattle.verdict.proofs.Headless.{frame_askable}
-use Rattle.verdict.specs.Functions.{program_of_function}
+use Rattle.program_value.specs.Programs as values
 use Rattle.verdict.specs.Grounds.{IsGround}
 use Rattle.verdict.specs.Measures.{IsMeasurable, IsMeasured, IsUnrolledOf, IsWeighed}
 use Rattle.verdict.specs.Rounds.{HasBytes, IsAskable, IsDecidable}
 use Rattle.verdict.specs.declared.measuring.Measured.{Measured}
 use Rattle.verdict.specs.declared.measuring.Weighed.{Weighed}
 use Rattle.verdict.specs.declared.measuring.Weighed.TheVariants as weighed
-use Rattle.verdict.specs.declared.shown.Function.{Function}
+use Rattle.program_value.specs.declared.program.Program as programs
 use Rattle.verdict.specs.declared.measuring.Measured.TheVariants.{Above, Within}
 
 -- what the rows of a function decode is what memory has
-pub function_is_read : (m : Machine) (f : Function) → IsLawfulMachine m → ReadsMemory (program_of_function m f)
-function_is_read m f lawful = record { word = λ s a. refl; little = lawful.little }
+pub function_is_read : {M I S : _} {m : _} {v : _} (p : programs.Program M I S m v) → IsLawfulMachine m.machine → ReadsMemory (values.program_of p)
+function_is_read p lawful = record { word = λ s a. refl; little = lawful.little }
 
 -- lines over a machine can be read by a program that has its registers and flags
 truth : (b : Bool) → IsTrue b → b ≡ true

@@ -1,15 +1,13 @@
-//! The questions of a function of two files, certified one by one.
-ghost use Rattle.std.specs.Prelude.{◌≡◌, IfOk};
-ghost use Rattle.bilv_spec.specs.Files.{order_of, program_of};
+//! The questions of a program, certified one by one.
+ghost use Rattle.std.specs.Prelude.{IfOk};
+ghost use Rattle.program_value.specs.Programs.{program_of};
 ghost use Rattle.call_spec.specs.Calls as answers;
 ghost use Rattle.call_spec.specs.Calls.{Question};
 ghost use Rattle.bilv_spec.specs.Answers.{IsWithin};
 ghost use Rattle.bilv_spec.specs.PointLaws.{HasLawfulRows, ReadsMemory};
-ghost use Rattle.bilv_spec.specs.Run.{Program};
+ghost use Rattle.bilv_spec.specs.Run as tables;
 ghost use Rattle.machine_spec.specs.StateText.{Layout};
 ghost use Rattle.question_form.specs.Views.{kind_of};
-ghost use Rattle.notes_value.specs.NoteViews.{notes_of};
-ghost use Rattle.notes_value.specs.Reads.{AreOver};
 ghost use Rattle.verdict.specs.Grounds.{IsAnswered};
 ghost use Rattle.verdict.specs.Measures.{IsMeasurable, IsUnrolledOf};
 ghost use Rattle.verdict.specs.Verdicts.{IsCertificate, budget_of};
@@ -17,16 +15,15 @@ ghost use Rattle.verdict.specs.Verdicts.{IsCertificate, budget_of};
 use crate::deciding::decide;
 use crate::measuring::{Measured, measure, unroll_within};
 use crate::{Answered, Budget, Certified, Exceeded};
-use elf32_reader::Image;
 use machine_law::Machine;
-use notes_value::Notes;
 use program_points::PointsFault;
+use program_value::Program;
 use question_form::{Kind, Unrolled};
 use std::alloc::{AllocError, Global};
 
 /// What the answer to a question of a program within the budgets certifies.
 fn certified(answered: Answered) -> Certified
-    ensures { (p : Program) (layout : Layout) (b : answers.Budget) (question : Question) → HasLawfulRows p → ReadsMemory p →
+    ensures { (p : tables.Program) (layout : Layout) (b : answers.Budget) (question : Question) → HasLawfulRows p → ReadsMemory p →
         IsWithin p b → IsAnswered p b.unroll layout question b.conflicts answered →
         IsCertificate p b question result }
 {
@@ -45,7 +42,7 @@ fn certify_unrolled(
     unrolled: &Unrolled,
 ) -> Result<Certified, AllocError>
     requires measurable { IsMeasurable unrolled.now }
-    ensures { IfOk result (λ c. (p : Program) (layout : Layout) → ReadsMemory p → IsUnrolledOf p layout (budget_of budget.now) unrolled.now →
+    ensures { IfOk result (λ c. (p : tables.Program) (layout : Layout) → ReadsMemory p → IsUnrolledOf p layout (budget_of budget.now) unrolled.now →
         IsCertificate p (budget_of budget.now) (kind_of kind) c) }
 {
     match measure(alloc, budget, unrolled)? {
@@ -57,21 +54,17 @@ fn certify_unrolled(
     }
 }
 
-/// What a question about the function at an address of an image comes to, by its notes and within the budgets, whether it is due or not. The error is want of
+/// What a question about a program comes to within the budgets, whether it is due or not. The error is want of
 /// memory; a price of 2^128 - 1 or more counts as that.
 pub fn certify<'a, M: Machine>(
     alloc: Global,
-    image: &'a Image<'a>,
-    notes: &'a Notes,
-    entry: u32,
+    program: &Program<'a, M>,
     budget: &Budget,
     kind: Kind,
 ) -> Result<Certified, AllocError>
-    requires order { order_of image.now ≡ M.machine.endian }
-    requires over { AreOver M.machine.has_register M.machine.has_flag (notes_of notes.now) }
-    ensures { IfOk result (λ c. IsCertificate (program_of M.machine image.now (notes_of notes.now) entry) (budget_of budget.now) (kind_of kind) c) }
+    ensures { IfOk result (λ c. IsCertificate (program_of program.now) (budget_of budget.now) (kind_of kind) c) }
 {
-    match unroll_within::<M>(alloc, image, notes, entry, budget) {
+    match unroll_within::<M>(alloc, program, budget) {
         Ok(unrolled) => {
             let certified = certify_unrolled(alloc, budget, kind, &unrolled)?;
             Ok(certified)

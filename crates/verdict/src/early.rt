@@ -1,15 +1,12 @@
 //! The verdict by the questions within a smaller bound on backward transfers than the budget's. Where no run makes more than that, they settle the verdict.
 ghost use Rattle.std.specs.Prelude.{◌≡◌, ◌≤◌, IfOk, IfSome};
-ghost use Rattle.bilv_spec.specs.Files.{order_of};
 ghost use Rattle.call_spec.specs.Calls.{FailQuestion, TurnQuestion};
 ghost use Rattle.bilv_spec.specs.Evidence.{Refutes};
 ghost use Rattle.bilv_spec.specs.Answers.{IsWithin};
 ghost use Rattle.cnf_form.specs.Views.{proof_of};
-ghost use Rattle.notes_value.specs.NoteViews.{notes_of};
-ghost use Rattle.notes_value.specs.Reads.{AreOver, AreReadable};
 ghost use Rattle.question_form.specs.Views.{unrolled_of};
 ghost use Rattle.turn_laws.specs.Raised.{over_variables};
-ghost use Rattle.verdict.specs.Functions.{program_of_function};
+ghost use Rattle.program_value.specs.Programs.{program_of};
 ghost use Rattle.verdict.specs.Grounds.{AnswersOver};
 ghost use Rattle.verdict.specs.FewerTurns.{AreNoTurns, IsEarly, IsSmaller};
 ghost use Rattle.verdict.specs.Measures.{IsMeasurable, IsUnrolledOf};
@@ -18,13 +15,14 @@ ghost use Rattle.verdict.specs.Verdicts.{IsVerdict, budget_of};
 
 use crate::deciding::{Decided, decide, decide_from};
 use crate::measuring::unroll_within;
-use crate::shown::{Function, failing};
+use crate::shown::failing;
 use crate::{Answered, Budget, Verdict};
 use bit_blast::free_inputs;
 use cnf_form::{Cnf, Proof};
 use machine_law::Machine;
 use passify::passive;
 use program_points::PointsFault;
+use program_value::Program;
 use question_form::{Kind, Passive, Unrolled};
 use start_value::Start;
 use std::alloc::{AllocError, Global};
@@ -72,19 +70,19 @@ fn over_variables(proof: Proof, least: u64) -> Proof
 /// addresses. The fail question asks those from the beginning, so that no reading that it is over makes more backward transfers. The error is want of memory.
 fn ask_fails<M: Machine>(
     alloc: Global,
-    function: &Function,
+    program: &Program<M>,
     budget: &Budget,
     whole: &Unrolled,
     passive: &Passive,
     turn: Proof,
     asked: Vec<u32>,
 ) -> Result<NoTurns, AllocError>
-    requires whole { IsUnrolledOf (program_of_function M.machine function.now) M.form (budget_of budget.now) whole.now }
-    requires smaller { IsSmaller (program_of_function M.machine function.now) budget.now.unroll M.form (unrolled_of passive.now.unrolled.now) }
+    requires whole { IsUnrolledOf (program_of program.now) M.form (budget_of budget.now) whole.now }
+    requires smaller { IsSmaller (program_of program.now) budget.now.unroll M.form (unrolled_of passive.now.unrolled.now) }
     requires decidable { IsDecidable passive.now }
     requires added { AreAdded (unrolled_of passive.now.unrolled.now) asked.items }
     requires turn { AnswersOver (unrolled_of passive.now.unrolled.now) TurnQuestion asked.items budget.now.conflicts (Answered.Refuted turn) }
-    ensures { IfOk result (AreNoTurns (program_of_function M.machine function.now) budget.now.unroll M.form) }
+    ensures { IfOk result (AreNoTurns (program_of program.now) budget.now.unroll M.form) }
 {
     let Decided { answered, .. } = decide_from(
         alloc,
@@ -108,15 +106,15 @@ fn ask_fails<M: Machine>(
 /// What the turn question, and after it the fail question, within a smaller bound come to for the budget's bound. The error is want of memory.
 fn ask_turns<M: Machine>(
     alloc: Global,
-    function: &Function,
+    program: &Program<M>,
     budget: &Budget,
     whole: &Unrolled,
     passive: &Passive,
 ) -> Result<NoTurns, AllocError>
-    requires whole { IsUnrolledOf (program_of_function M.machine function.now) M.form (budget_of budget.now) whole.now }
-    requires smaller { IsSmaller (program_of_function M.machine function.now) budget.now.unroll M.form (unrolled_of passive.now.unrolled.now) }
+    requires whole { IsUnrolledOf (program_of program.now) M.form (budget_of budget.now) whole.now }
+    requires smaller { IsSmaller (program_of program.now) budget.now.unroll M.form (unrolled_of passive.now.unrolled.now) }
     requires decidable { IsDecidable passive.now }
-    ensures { IfOk result (AreNoTurns (program_of_function M.machine function.now) budget.now.unroll M.form) }
+    ensures { IfOk result (AreNoTurns (program_of program.now) budget.now.unroll M.form) }
 {
     let none = Vec::new(alloc);
     let Decided { answered, asked } = decide_from(
@@ -128,7 +126,7 @@ fn ask_turns<M: Machine>(
     )?;
     match answered {
         Answered::Refuted(turn) => {
-            let no_turns = ask_fails::<M>(alloc, function, budget, whole, passive, turn, asked)?;
+            let no_turns = ask_fails::<M>(alloc, program, budget, whole, passive, turn, asked)?;
             Ok(no_turns)
         }
         Answered::Sat(_) => Ok(NoTurns::Turns),
@@ -139,20 +137,20 @@ fn ask_turns<M: Machine>(
 /// The verdict where no run fails or makes more backward transfers than a smaller bound: it holds, or there is no entry state. The error is want of memory.
 fn ask_entry<M: Machine>(
     alloc: Global,
-    function: &Function,
+    program: &Program<M>,
     budget: &Budget,
     whole: &Unrolled,
     passive: &Passive,
     fail: Proof,
     turn: Proof,
 ) -> Result<Early, AllocError>
-    requires within { IsWithin (program_of_function M.machine function.now) (budget_of budget.now) }
-    requires whole { IsUnrolledOf (program_of_function M.machine function.now) M.form (budget_of budget.now) whole.now }
-    requires smaller { IsSmaller (program_of_function M.machine function.now) budget.now.unroll M.form (unrolled_of passive.now.unrolled.now) }
+    requires within { IsWithin (program_of program.now) (budget_of budget.now) }
+    requires whole { IsUnrolledOf (program_of program.now) M.form (budget_of budget.now) whole.now }
+    requires smaller { IsSmaller (program_of program.now) budget.now.unroll M.form (unrolled_of passive.now.unrolled.now) }
     requires decidable { IsDecidable passive.now }
-    requires fail { Refutes (program_of_function M.machine function.now) budget.now.unroll FailQuestion (proof_of fail) }
-    requires turn { Refutes (program_of_function M.machine function.now) budget.now.unroll TurnQuestion (proof_of turn) }
-    ensures { IfOk result (IsEarly (program_of_function M.machine function.now) M.form budget.now) }
+    requires fail { Refutes (program_of program.now) budget.now.unroll FailQuestion (proof_of fail) }
+    requires turn { Refutes (program_of program.now) budget.now.unroll TurnQuestion (proof_of turn) }
+    ensures { IfOk result (IsEarly (program_of program.now) M.form budget.now) }
 {
     match decide(alloc, passive, Kind::Entry, budget.conflicts)? {
         Answered::Sat(start) => Ok(Early::Settled(Verdict::Holds { start, fail, turn })),
@@ -168,26 +166,24 @@ fn ask_entry<M: Machine>(
 /// What the questions within a smaller bound come to, by its passive program. The error is want of memory.
 fn judge_passive<M: Machine>(
     alloc: Global,
-    function: &Function,
+    program: &Program<M>,
     budget: &Budget,
     whole: &Unrolled,
     passive: &Passive,
 ) -> Result<Early, AllocError>
-    requires order { order_of function.now.image.now ≡ M.machine.endian }
-    requires readable { AreReadable M.machine.has_register (notes_of function.now.notes.now) }
-    requires within { IsWithin (program_of_function M.machine function.now) (budget_of budget.now) }
-    requires whole { IsUnrolledOf (program_of_function M.machine function.now) M.form (budget_of budget.now) whole.now }
-    requires smaller { IsSmaller (program_of_function M.machine function.now) budget.now.unroll M.form (unrolled_of passive.now.unrolled.now) }
+    requires within { IsWithin (program_of program.now) (budget_of budget.now) }
+    requires whole { IsUnrolledOf (program_of program.now) M.form (budget_of budget.now) whole.now }
+    requires smaller { IsSmaller (program_of program.now) budget.now.unroll M.form (unrolled_of passive.now.unrolled.now) }
     requires decidable { IsDecidable passive.now }
-    ensures { IfOk result (IsEarly (program_of_function M.machine function.now) M.form budget.now) }
+    ensures { IfOk result (IsEarly (program_of program.now) M.form budget.now) }
 {
-    match ask_turns::<M>(alloc, function, budget, whole, passive)? {
+    match ask_turns::<M>(alloc, program, budget, whole, passive)? {
         NoTurns::Refuted { fail, turn } => {
-            let early = ask_entry::<M>(alloc, function, budget, whole, passive, fail, turn)?;
+            let early = ask_entry::<M>(alloc, program, budget, whole, passive, fail, turn)?;
             Ok(early)
         }
         NoTurns::Fails(start) => {
-            let verdict = failing::<M>(alloc, function, budget, start)?;
+            let verdict = failing::<M>(alloc, program, budget, start)?;
             Ok(Early::Settled(verdict))
         }
         NoTurns::Turns => Ok(Early::Turns),
@@ -198,50 +194,39 @@ fn judge_passive<M: Machine>(
 /// What the questions within a smaller bound come to, by its unrolled program. The error is want of memory.
 fn judge_smaller<M: Machine>(
     alloc: Global,
-    function: &Function,
+    program: &Program<M>,
     budget: &Budget,
     whole: &Unrolled,
     unrolled: &Unrolled,
 ) -> Result<Early, AllocError>
-    requires order { order_of function.now.image.now ≡ M.machine.endian }
-    requires readable { AreReadable M.machine.has_register (notes_of function.now.notes.now) }
-    requires within { IsWithin (program_of_function M.machine function.now) (budget_of budget.now) }
-    requires whole { IsUnrolledOf (program_of_function M.machine function.now) M.form (budget_of budget.now) whole.now }
+    requires within { IsWithin (program_of program.now) (budget_of budget.now) }
+    requires whole { IsUnrolledOf (program_of program.now) M.form (budget_of budget.now) whole.now }
     requires measurable { IsMeasurable unrolled.now }
-    requires smaller { IsSmaller (program_of_function M.machine function.now) budget.now.unroll M.form (unrolled_of unrolled.now) }
-    ensures { IfOk result (IsEarly (program_of_function M.machine function.now) M.form budget.now) }
+    requires smaller { IsSmaller (program_of program.now) budget.now.unroll M.form (unrolled_of unrolled.now) }
+    ensures { IfOk result (IsEarly (program_of program.now) M.form budget.now) }
 {
     let passive = passive(alloc, unrolled)?;
-    let early = judge_passive::<M>(alloc, function, budget, whole, &passive)?;
+    let early = judge_passive::<M>(alloc, program, budget, whole, &passive)?;
     Ok(early)
 }
 
 /// What the questions for so many backward transfers come to. The error is want of memory.
 fn judge_within<M: Machine>(
     alloc: Global,
-    function: &Function,
+    program: &Program<M>,
     budget: &Budget,
     whole: &Unrolled,
     turns: u64,
 ) -> Result<Early, AllocError>
-    requires order { order_of function.now.image.now ≡ M.machine.endian }
-    requires readable { AreReadable M.machine.has_register (notes_of function.now.notes.now) }
-    requires over { AreOver M.machine.has_register M.machine.has_flag (notes_of function.now.notes.now) }
-    requires within { IsWithin (program_of_function M.machine function.now) (budget_of budget.now) }
-    requires whole { IsUnrolledOf (program_of_function M.machine function.now) M.form (budget_of budget.now) whole.now }
+    requires within { IsWithin (program_of program.now) (budget_of budget.now) }
+    requires whole { IsUnrolledOf (program_of program.now) M.form (budget_of budget.now) whole.now }
     requires turns { turns ≤ budget.now.unroll }
-    ensures { IfOk result (IsEarly (program_of_function M.machine function.now) M.form budget.now) }
+    ensures { IfOk result (IsEarly (program_of program.now) M.form budget.now) }
 {
     let smaller = budget.with_unroll(turns);
-    match unroll_within::<M>(
-        alloc,
-        function.image,
-        function.notes,
-        function.entry,
-        &smaller,
-    ) {
+    match unroll_within::<M>(alloc, program, &smaller) {
         Ok(unrolled) => {
-            let early = judge_smaller::<M>(alloc, function, budget, whole, &unrolled)?;
+            let early = judge_smaller::<M>(alloc, program, budget, whole, &unrolled)?;
             Ok(early)
         }
         Err(PointsFault::TooMany { .. }) => Ok(Early::Open),
@@ -263,21 +248,18 @@ fn most_turns(unrolled: &Unrolled) -> u64 {
 /// memory.
 pub fn judge_early<M: Machine>(
     alloc: Global,
-    function: &Function,
+    program: &Program<M>,
     budget: &Budget,
     whole: &Unrolled,
 ) -> Result<Option<Verdict>, AllocError>
-    requires order { order_of function.now.image.now ≡ M.machine.endian }
-    requires readable { AreReadable M.machine.has_register (notes_of function.now.notes.now) }
-    requires over { AreOver M.machine.has_register M.machine.has_flag (notes_of function.now.notes.now) }
-    requires within { IsWithin (program_of_function M.machine function.now) (budget_of budget.now) }
-    requires whole { IsUnrolledOf (program_of_function M.machine function.now) M.form (budget_of budget.now) whole.now }
-    ensures { IfOk result (λ o. IfSome o (IsVerdict (program_of_function M.machine function.now) M.form budget.now)) }
+    requires within { IsWithin (program_of program.now) (budget_of budget.now) }
+    requires whole { IsUnrolledOf (program_of program.now) M.form (budget_of budget.now) whole.now }
+    ensures { IfOk result (λ o. IfSome o (IsVerdict (program_of program.now) M.form budget.now)) }
 {
     let most = most_turns(whole).min(budget.unroll);
     let mut turns: u64 = 1;
     while turns < most {
-        match judge_within::<M>(alloc, function, budget, whole, turns)? {
+        match judge_within::<M>(alloc, program, budget, whole, turns)? {
             Early::Settled(verdict) => return Ok(Some(verdict)),
             Early::Turns => turns *= 2,
             Early::Open => return Ok(None),

@@ -15,6 +15,5 @@ pub use certifying::certify;
 pub use deciding::{asked_next, start_shown};
 pub use measuring::{Measured, measure, unroll_within};
 pub use scripting::script;
-pub use shown::Function;
 pub use verdicts::{Answered, Certified, Exceeded, Scripted, Verdict};
 pub use verifying::{judge_unrolled, verify};

@@ -1,20 +1,17 @@
-//! Functions of two files, unrolled, and measured by the budgets.
+//! Programs, unrolled, and measured by the budgets.
 ghost use Rattle.std.specs.Prelude.{◌≡◌, IfErr, IfOk};
-ghost use Rattle.bilv_spec.specs.Files.{order_of, program_of};
+ghost use Rattle.program_value.specs.Programs.{program_of};
 ghost use Rattle.program_points.specs.Listed.{IsTooMany};
 ghost use Rattle.start_value.specs.Starts.{layout_of};
-ghost use Rattle.notes_value.specs.NoteViews.{notes_of};
-ghost use Rattle.notes_value.specs.Reads.{AreOver};
 ghost use Rattle.verdict.specs.Measures.{IsMeasurable, IsMeasured, IsUnrolledOf, IsWeighed};
 ghost use Rattle.verdict.specs.Verdicts.{budget_of};
 
 use crate::Budget;
-use elf32_reader::Image;
 use flow_graph::descend;
 use machine_law::Machine;
-use notes_value::Notes;
 use passify::passive;
 use program_points::PointsFault;
+use program_value::Program;
 use question_form::{Passive, Unrolled};
 use std::alloc::{AllocError, Global};
 use unroller::{price, unroll};
@@ -35,35 +32,23 @@ pub enum Measured<'a> {
     Within(Passive<'a>),
 }
 
-/// The function at an address of an image, unrolled by its notes.
+/// A program, unrolled.
 ///
 /// # Errors
 ///
 /// `TooMany` with one point more than the budget where there are more points; want of memory.
 pub fn unroll_within<'a, M: Machine>(
     alloc: Global,
-    image: &'a Image<'a>,
-    notes: &'a Notes,
-    entry: u32,
+    program: &Program<'a, M>,
     budget: &Budget,
 ) -> Result<Unrolled<'a>, PointsFault>
-    requires order { order_of image.now ≡ M.machine.endian }
-    requires over { AreOver M.machine.has_register M.machine.has_flag (notes_of notes.now) }
-    ensures unrolled { IfOk result (IsUnrolledOf (program_of M.machine image.now (notes_of notes.now) entry) M.form (budget_of budget.now)) }
+    ensures unrolled { IfOk result (IsUnrolledOf (program_of program.now) M.form (budget_of budget.now)) }
     ensures form { IfOk result (λ u. layout_of u.form ≡ M.form) }
-    ensures more { IfErr result (IsTooMany (program_of M.machine image.now (notes_of notes.now) entry) budget.now.unroll budget.now.points) }
+    ensures more { IfErr result (IsTooMany (program_of program.now) budget.now.unroll budget.now.points) }
 {
-    image.bytes();
-    let graph = descend::<M>(alloc, image, notes, entry)?;
-    unroll::<M>(
-        alloc,
-        &graph,
-        image,
-        notes,
-        entry,
-        budget.unroll,
-        budget.points,
-    )
+    program.image.bytes();
+    let graph = descend::<M>(alloc, program)?;
+    unroll::<M>(alloc, &graph, program, budget.unroll, budget.points)
 }
 
 /// The price of an unrolled program, above the budget or within it. A price of 2^128 - 1 or more counts as want of memory, which is the error.

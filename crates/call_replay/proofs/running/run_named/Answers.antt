@@ -16,14 +16,16 @@ use Rattle.call_text.specs.Texts.{called_ending_of}
 use Rattle.call_replay.proofs.Replayed.{ended_is, outcome_is, right_of_start}
 use Rattle.call_replay.proofs.running.run_named.Goals as goal
 
-pub called_lines_ok-requires-clause-pc : goal.called_lines_ok-requires-clause-pc
-called_lines_ok-requires-clause-pc g c = ap (λ (s : State). s.pc) (c.in_ok-state.ensures (map written_call_of c.args.text.now.calls.items))
+pub called_lines_ok-requires : goal.called_lines_ok-requires
+called_lines_ok-requires g c = record {
+  pc = ap (λ (s : State). s.pc) (c.in_ok-state.ensures (map written_call_of c.args.text.now.calls.items));
+}
 
 pub returns-in-Err : goal.returns-in-Err
 returns-in-Err g c =
-    let f = frame_of_rank g.M.Machine.machine c.args.frame.now in
+    let f = frame_of_rank c.args.frame.now in
     let calls = map written_call_of c.args.text.now.calls.items in
-    let start = start_called g.M.Machine.machine g.M.Machine.form c.args.frame.now (written_of c.args.text.now.start) calls in
+    let start = start_called g.M.Machine.form c.args.frame.now (written_of c.args.text.now.start) calls in
     c.faulted.ensures f (called_ending_of c.args.text.now.named) start calls (sym c.frame.ensures) refl
     (subst (λ (s : State). IsEntryStateFault f.program s (fault_of c.in-Err.fault)) (c.in_ok-state.ensures calls) c.in-Err.ensures.fault)
 
@@ -33,15 +35,15 @@ run_called-requires-clause-calls g c =
 
 pub returns : goal.returns
 returns g c =
-    let f = frame_of_rank g.M.Machine.machine c.args.frame.now in
+    let f = frame_of_rank c.args.frame.now in
     let n = called_ending_of c.args.text.now.named in
     let calls = map written_call_of c.as_slice-calls.result.now in
-    let start = start_called g.M.Machine.machine g.M.Machine.form c.args.frame.now (written_of c.args.text.now.start) calls in
+    let start = start_called g.M.Machine.form c.args.frame.now (written_of c.args.text.now.start) calls in
     let entry : IsEntryState f.program start.state =
     subst (λ (s : State). IsEntryState f.program s) (c.in_ok-state.ensures calls) (c.in_default.ensures.ok
     (right_of_start f.program g.M.Machine.form (written_of c.args.text.now.start) (g.M.State.View.view c.in_ok-state.state) (c.in_ok-state.ensures calls))) in
     subst (λ (l : List CallState). IfOk c.compared.result (λ r. plain_answer r.status r.text.items
-    ≡ call_run_answer f n (start_called g.M.Machine.machine g.M.Machine.form c.args.frame.now (written_of c.args.text.now.start) (map written_call_of l))
+    ≡ call_run_answer f n (start_called g.M.Machine.form c.args.frame.now (written_of c.args.text.now.start) (map written_call_of l))
     (map written_call_of l))) c.as_slice-calls.ensures.value
     (subst (λ (a : Answer). IfOk c.compared.result (λ r. plain_answer r.status r.text.items ≡ a)) (ended_is f n start calls entry refl)
     (c.compared.ensures (replays.outcome f (replays.bare n) start calls)

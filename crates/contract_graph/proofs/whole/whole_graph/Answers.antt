@@ -2,13 +2,14 @@ use Rattle.std.proofs.Common.{◌∙◌, sym}
 use Rattle.frame_spec.specs.Frames.{Contract}
 use Rattle.notes_value.specs.FrameViews.{contract_of}
 use Rattle.flow_graph.proofs.Members.{maps}
-use Rattle.contract_graph.specs.Wholes.{whole_by}
+use Rattle.program_value.specs.Programs.{program_of}
+use Rattle.contract_graph.specs.Wholes.{whole_with}
 use Rattle.contract_graph.proofs.Live.{whole_made}
 use Rattle.contract_graph.proofs.whole.whole_graph.Goals as goal
 
 pub returns-clause-graph : goal.returns-clause-graph
 returns-clause-graph g c heads =
-    (whole_made (whole_by g.M.Machine.machine c.args.image.now c.args.notes.now heads c.args.contracts.now c.args.entry) c.deref.result.now c.in_ok-graph.graph
+    (whole_made (whole_with (program_of c.args.program.now) heads c.args.contracts.now) c.deref.result.now c.in_ok-graph.graph
     c.in_ok-live.live c.as_mut_slice.result.now c.ask.new.nodes c.read_at_exits.result
     (c.deref.ensures.value ∙ c.in_ok-others.ensures ∙ sym (maps (λ (x : Contract). x.at) contract_of c.args.contracts.now)) c.in_ok-graph.ensures.graph
     c.as_mut_slice.ensures.value (c.ask.auto.nodes ∙ c.as_mut_slice.ensures.len) c.ask.ensures c.read_at_exits.ensures c.in_ok-live.ensures.same
@@ -16,7 +17,7 @@ returns-clause-graph g c heads =
 
 pub returns-clause-live : goal.returns-clause-live
 returns-clause-live g c heads =
-    (whole_made (whole_by g.M.Machine.machine c.args.image.now c.args.notes.now heads c.args.contracts.now c.args.entry) c.deref.result.now c.in_ok-graph.graph
+    (whole_made (whole_with (program_of c.args.program.now) heads c.args.contracts.now) c.deref.result.now c.in_ok-graph.graph
     c.in_ok-live.live c.as_mut_slice.result.now c.ask.new.nodes c.read_at_exits.result
     (c.deref.ensures.value ∙ c.in_ok-others.ensures ∙ sym (maps (λ (x : Contract). x.at) contract_of c.args.contracts.now)) c.in_ok-graph.ensures.graph
     c.as_mut_slice.ensures.value (c.ask.auto.nodes ∙ c.as_mut_slice.ensures.len) c.ask.ensures c.read_at_exits.ensures c.in_ok-live.ensures.same

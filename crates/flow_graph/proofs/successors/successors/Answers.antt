@@ -3,13 +3,13 @@ use Rattle.std.specs.Prelude.{Bool, filter}
 use Rattle.machine_spec.specs.Machine.{is_place}
 use Rattle.machine_law.specs.Facts as facts
 use Rattle.bilv_spec.specs.Graph as graph
-use Rattle.flow_graph.specs.Programs.{program}
+use Rattle.program_value.specs.Programs.{program_of}
 use Rattle.flow_graph.proofs.Nodal.{sort_same}
 use Rattle.flow_graph.proofs.successors.successors.Goals as goal
 
 pub returns : goal.returns
 returns g c =
-    let p = program g.M.Machine.machine c.args.p.now in
+    let p = program_of c.args.p.now in
     let found = graph.successors_of p c.args.at (g.M.Machine.row c.args.insn.now) in
     c.in_ok-found-2.ensures
     ∙ sort_same (λ (s : graph.Successor). is_place c.is_narrow.result s.to) _ _ c.in_ok-found.ensures

@@ -6,4 +6,4 @@ certify_unrolled-requires g c = record { measurable = c.in_ok-unrolled.ensures.m
 
 pub returns : goal.returns
 returns g c =
-    c.in_ok-certified.ensures (whole_of_framed g.M.Machine.machine c.args.framed.now) c.args.rank g.M.Machine.form c.requires.within c.in_ok-unrolled.ensures
+    c.in_ok-certified.ensures (whole_of_framed c.args.framed.now) c.args.rank g.M.Machine.form c.requires.within c.in_ok-unrolled.ensures

@@ -15,6 +15,6 @@ judge_frame-requires g c = record {
 
 pub returns : goal.returns
 returns g c =
-    c.pass_or_end.ensures (whole_of_framed g.M.Machine.machine c.args.framed.now) g.M.Machine.form c.args.budget.now
+    c.pass_or_end.ensures (whole_of_framed c.args.framed.now) g.M.Machine.form c.args.budget.now
     (plain_at c.args.framed.now c.requires.runs.alone c.args.rank c.requires.rank) (low_at c.args.framed.now c.args.rank c.requires.rank) c.requires.within
     c.requires.below c.in_ok-judged.ensures

@@ -6,8 +6,6 @@ use Rattle.frame_verdict.proofs.ranking.verify_frame.Goals as goal
 pub measure-requires : goal.measure-requires
 measure-requires g c = record {
   runs = record {
-    order = c.requires.order;
-    over = c.requires.over;
     place = c.requires.place;
     callable = c.requires.callable;
   };
@@ -15,37 +13,29 @@ measure-requires g c = record {
 
 pub returns-in-Exceeded : goal.returns-in-Exceeded
 returns-in-Exceeded g c =
-    let x : Framed = record {
-      image = c.args.image;
-      notes = c.args.notes;
+    let x : Framed g.row.M.Denot g.row.M-Insn.Denot g.row.M-State.Denot g.M.Machine g.M.State.View = record {
+      program = c.args.program.now;
       invariants = c.args.invariants;
       contracts = c.args.contracts;
-      entry = c.args.entry;
     } in
-    let w = whole_of_framed g.M.Machine.machine x in
+    let w = whole_of_framed x in
     exceeded_verdict w g.M.Machine.form c.args.budget.now c.in-Exceeded.past
     (exceeded w g.M.Machine.form c.args.budget.now c.in-Exceeded.past c.in_ok-past.field-0 c.in_ok-past.ensures c.in-Exceeded.is)
 
 pub verdict_within-requires : goal.verdict_within-requires
 verdict_within-requires g c =
-    let x : Framed = record {
-      image = c.args.image;
-      notes = c.args.notes;
+    let x : Framed g.row.M.Denot g.row.M-Insn.Denot g.row.M-State.Denot g.M.Machine g.M.State.View = record {
+      program = c.args.program.now;
       invariants = c.args.invariants;
       contracts = c.args.contracts;
-      entry = c.args.entry;
     } in
     record {
-      ready = own_ready g.M.Machine.machine g.M.Machine.form x c.args.budget.now c.in-Within.unrolled c.in_ok-past.field-0 c.in_ok-past.ensures
+      ready = own_ready g.M.Machine.form x c.args.budget.now c.in-Within.unrolled c.in_ok-past.field-0 c.in_ok-past.ensures
           c.in-Within.is (record {
             unroll = record {
-              order = c.requires.order;
-              over = c.requires.over;
               place = c.requires.place;
               callable = c.requires.callable;
             };
-            readable = c.requires.readable;
-            read = c.requires.read;
             rising = c.requires.rising;
             alone = c.requires.alone;
           });

@@ -9,4 +9,4 @@ script_unrolled-requires-clause-once g c = c.in_ok-unrolled.ensures.ground.unrol
 
 pub returns : goal.returns
 returns g c =
-    c.in_ok-scripted.ensures (whole_of_framed g.M.Machine.machine c.args.framed.now) c.args.rank g.M.Machine.form c.requires.within c.in_ok-unrolled.ensures
+    c.in_ok-scripted.ensures (whole_of_framed c.args.framed.now) c.args.rank g.M.Machine.form c.requires.within c.in_ok-unrolled.ensures

@@ -6,8 +6,6 @@ use Rattle.frame_verdict.proofs.scripting.script_frame.Goals as goal
 pub measure-requires : goal.measure-requires
 measure-requires g c = record {
   runs = record {
-    order = c.requires.order;
-    over = c.requires.over;
     place = c.requires.place;
     callable = c.requires.callable;
   };
@@ -15,64 +13,53 @@ measure-requires g c = record {
 
 pub returns-in-Exceeded : goal.returns-in-Exceeded
 returns-in-Exceeded g c =
-    let x : Framed = record {
-      image = c.args.image;
-      notes = c.args.notes;
+    let x : Framed g.row.M.Denot g.row.M-Insn.Denot g.row.M-State.Denot g.M.Machine g.M.State.View = record {
+      program = c.args.program.now;
       invariants = c.args.invariants;
       contracts = c.args.contracts;
-      entry = c.args.entry;
     } in
-    exceeded (whole_of_framed g.M.Machine.machine x) g.M.Machine.form c.args.budget.now c.in-Exceeded.past c.in_ok-past.field-0 c.in_ok-past.ensures
+    exceeded (whole_of_framed x) g.M.Machine.form c.args.budget.now c.in-Exceeded.past c.in_ok-past.field-0 c.in_ok-past.ensures
     c.in-Exceeded.is
 
 pub script_contract-requires-clause-within : goal.script_contract-requires-clause-within
 script_contract-requires-clause-within g c =
-    let x : Framed = record {
-      image = c.args.image;
-      notes = c.args.notes;
+    let x : Framed g.row.M.Denot g.row.M-Insn.Denot g.row.M-State.Denot g.M.Machine g.M.State.View = record {
+      program = c.args.program.now;
       invariants = c.args.invariants;
       contracts = c.args.contracts;
-      entry = c.args.entry;
     } in
-    all_within g.M.Machine.machine g.M.Machine.form x c.args.budget.now c.in-Within.unrolled c.in_ok-past.field-0 c.in_ok-past.ensures c.in-Within.is
+    all_within g.M.Machine.form x c.args.budget.now c.in-Within.unrolled c.in_ok-past.field-0 c.in_ok-past.ensures c.in-Within.is
 
 pub script_unrolled-requires-clause-measurable : goal.script_unrolled-requires-clause-measurable
 script_unrolled-requires-clause-measurable g c =
-    let x : Framed = record {
-      image = c.args.image;
-      notes = c.args.notes;
+    let x : Framed g.row.M.Denot g.row.M-Insn.Denot g.row.M-State.Denot g.M.Machine g.M.State.View = record {
+      program = c.args.program.now;
       invariants = c.args.invariants;
       contracts = c.args.contracts;
-      entry = c.args.entry;
     } in
-    (own_unrolled g.M.Machine.machine g.M.Machine.form x c.args.budget.now c.in-Within.unrolled c.in_ok-past.field-0 c.in_ok-past.ensures c.in-Within.is
+    (own_unrolled g.M.Machine.form x c.args.budget.now c.in-Within.unrolled c.in_ok-past.field-0 c.in_ok-past.ensures c.in-Within.is
     c.args.rank (last_of x c.args.rank c.requires.rank c.if-rank-contracts.false)).measurable
 
 pub script_unrolled-requires-clause-once : goal.script_unrolled-requires-clause-once
 script_unrolled-requires-clause-once g c =
-    let x : Framed = record {
-      image = c.args.image;
-      notes = c.args.notes;
+    let x : Framed g.row.M.Denot g.row.M-Insn.Denot g.row.M-State.Denot g.M.Machine g.M.State.View = record {
+      program = c.args.program.now;
       invariants = c.args.invariants;
       contracts = c.args.contracts;
-      entry = c.args.entry;
     } in
-    (own_unrolled g.M.Machine.machine g.M.Machine.form x c.args.budget.now c.in-Within.unrolled c.in_ok-past.field-0 c.in_ok-past.ensures c.in-Within.is
+    (own_unrolled g.M.Machine.form x c.args.budget.now c.in-Within.unrolled c.in_ok-past.field-0 c.in_ok-past.ensures c.in-Within.is
     c.args.rank (last_of x c.args.rank c.requires.rank c.if-rank-contracts.false)).ground.unrolling.points.once
 
 pub returns-in_ok-scripted-in-Within-2 : goal.returns-in_ok-scripted-in-Within-2
 returns-in_ok-scripted-in-Within-2 g c =
-    let x : Framed = record {
-      image = c.args.image;
-      notes = c.args.notes;
+    let x : Framed g.row.M.Denot g.row.M-Insn.Denot g.row.M-State.Denot g.M.Machine g.M.State.View = record {
+      program = c.args.program.now;
       invariants = c.args.invariants;
       contracts = c.args.contracts;
-      entry = c.args.entry;
     } in
-    let m = g.M.Machine.machine in
     let b = c.args.budget.now in
     let form = g.M.Machine.form in
-    c.in_ok-scripted-in-Within-2.ensures (whole_of_framed m x) c.args.rank form
-    (all_within m form x b c.in-Within.unrolled c.in_ok-past.field-0 c.in_ok-past.ensures c.in-Within.is)
-    (own_unrolled m form x b c.in-Within.unrolled c.in_ok-past.field-0 c.in_ok-past.ensures c.in-Within.is c.args.rank
+    c.in_ok-scripted-in-Within-2.ensures (whole_of_framed x) c.args.rank form
+    (all_within form x b c.in-Within.unrolled c.in_ok-past.field-0 c.in_ok-past.ensures c.in-Within.is)
+    (own_unrolled form x b c.in-Within.unrolled c.in_ok-past.field-0 c.in_ok-past.ensures c.in-Within.is c.args.rank
     (last_of x c.args.rank c.requires.rank c.if-rank-contracts.false))

@@ -22,13 +22,13 @@ not_tried w rank k layout question u s i o h e before =
 
 pub loop-root-preserved : goal.loop-root-preserved
 loop-root-preserved g c =
-    not_tried (whole_of_framed g.M.Machine.machine c.args.framed.now) c.args.rank c.args.budget.now.unroll g.M.Machine.form (frame_question c.args.asked)
+    not_tried (whole_of_framed c.args.framed.now) c.args.rank c.args.budget.now.unroll g.M.Machine.form (frame_question c.args.asked)
     c.args.unrolled.now c.args.segments.now c.loop-root.root c.in_ok-tried.tried c.in_ok-tried.ensures c.in_default.is c.loop-root.invariant
 
 pub unreachable-requires : goal.unreachable-requires
 unreachable-requires g c =
     let ready = c.requires.ready in
-    let some = some_root (whole_of_framed g.M.Machine.machine c.args.framed.now) c.args.rank c.args.budget.now.unroll g.M.Machine.form
+    let some = some_root (whole_of_framed c.args.framed.now) c.args.rank c.args.budget.now.unroll g.M.Machine.form
     (frame_question c.args.asked) c.args.unrolled.now c.args.segments.now ready.unrolled.ground.among.stepped ready.unrolled.measurable.first.0
     c.requires.segments.shows (later c.args.asked c.requires.later) in
     let few : some.0 < length c.args.unrolled.now.roots.items = some.1 in

@@ -5,16 +5,16 @@ use Rattle.frame_verdict.proofs.shown.is_head_for.Goals as goal
 
 pub returns-in-Ok-clause-yes : goal.returns-in-Ok-clause-yes
 returns-in-Ok-clause-yes g c is =
-    let notes = notes_of c.args.framed.now.notes.now in
-    let at = c.args.framed.now.entry in
-    fits (program_of_framed g.M.Machine.machine c.args.framed.now) c.args.framed.now.invariants.now g.M.Machine.form
+    let notes = notes_of c.args.framed.now.program.notes.now in
+    let at = c.args.framed.now.program.entry in
+    fits (program_of_framed c.args.framed.now) c.args.framed.now.invariants.now g.M.Machine.form
     (g.M.State.View.view c.args.entry.now) (g.M.State.View.view c.in_ok-state-in-Some.state) c.args.head c.in-Some.head c.in-Some.is
-    (c.in_ok-state-in-Some.ensures.state notes at) c.requires.head (c.in-Ok.ensures.head at) (c.in_ok-state-in-Some.ensures.kept notes at)
+    (c.in_ok-state-in-Some.ensures.state notes at) c.requires.head c.in-Ok.ensures.head (c.in_ok-state-in-Some.ensures.kept notes at)
 
 pub returns-clause-no : goal.returns-clause-no
 returns-clause-no g c is =
-    let notes = notes_of c.args.framed.now.notes.now in
-    let at = c.args.framed.now.entry in
-    fits_not (program_of_framed g.M.Machine.machine c.args.framed.now) c.args.framed.now.invariants.now g.M.Machine.form
+    let notes = notes_of c.args.framed.now.program.notes.now in
+    let at = c.args.framed.now.program.entry in
+    fits_not (program_of_framed c.args.framed.now) c.args.framed.now.invariants.now g.M.Machine.form
     (g.M.State.View.view c.args.entry.now) (g.M.State.View.view c.in_ok-state-in-Some.state) c.args.head c.in-Some.head c.in-Some.is
-    (c.in_ok-state-in-Some.ensures.state notes at) c.in-Err.field-0 (c.in-Err.ensures.fault at)
+    (c.in_ok-state-in-Some.ensures.state notes at) c.in-Err.field-0 c.in-Err.ensures.fault

@@ -8,7 +8,7 @@ use Rattle.frame_verdict.proofs.shown.try_root.Goals as goal
 
 pub came_to-requires-clause-ends : goal.came_to-requires-clause-ends
 came_to-requires-clause-ends g c =
-    can_end g.M.Machine.machine g.M.Machine.form c.args.framed.now c.args.budget.now c.args.rank c.args.unrolled.now c.requires.ready
+    can_end g.M.Machine.form c.args.framed.now c.args.budget.now c.args.rank c.args.unrolled.now c.requires.ready
     (frame_question c.args.asked) c.args.segments.now c.requires.segments c.args.root c.requires.root
     (wanted_by c.args.unrolled.now c.args.root c.index.result.now (frame_question c.args.asked) c.wants.result true c.requires.root c.index.ensures
     (c.wants.ensures (stacks_of c.args.unrolled.now.frames.items)) c.if-not-wants.false)
@@ -16,7 +16,7 @@ came_to-requires-clause-ends g c =
 
 pub returns-in-None : goal.returns-in-None
 returns-in-None g c =
-    no_end g.M.Machine.machine g.M.Machine.form c.args.framed.now c.args.budget.now c.args.rank c.args.unrolled.now c.requires.ready
+    no_end g.M.Machine.form c.args.framed.now c.args.budget.now c.args.rank c.args.unrolled.now c.requires.ready
     (frame_question c.args.asked) c.args.segments.now c.requires.segments c.args.root c.requires.root
     (wanted_by c.args.unrolled.now c.args.root c.index.result.now (frame_question c.args.asked) c.wants.result true c.requires.root c.index.ensures
     (c.wants.ensures (stacks_of c.args.unrolled.now.frames.items)) c.if-not-wants.false)
@@ -24,22 +24,22 @@ returns-in-None g c =
 
 pub returns-then-is_end : goal.returns-then-is_end
 returns-then-is_end g c =
-    is_ended g.M.Machine.machine g.M.Machine.form c.args.framed.now c.args.budget.now c.args.rank c.args.unrolled.now c.requires.ready
+    is_ended g.M.Machine.form c.args.framed.now c.args.budget.now c.args.rank c.args.unrolled.now c.requires.ready
     (frame_question c.args.asked) c.args.segments.now c.requires.segments c.args.root c.requires.root
     (wanted_by c.args.unrolled.now c.args.root c.index.result.now (frame_question c.args.asked) c.wants.result true c.requires.root c.index.ensures
     (c.wants.ensures (stacks_of c.args.unrolled.now.frames.items)) c.if-not-wants.false)
     c.in_ok-shown.shown c.in_ok-shown.ensures c.in-Some.ended
-    (came_as (whole_of_framed g.M.Machine.machine c.args.framed.now) c.args.rank c.args.budget.now.unroll c.args.budget.now.points g.M.Machine.form
+    (came_as (whole_of_framed c.args.framed.now) c.args.rank c.args.budget.now.unroll c.args.budget.now.points g.M.Machine.form
     (shown_of c.in_ok-shown.shown) c.in_ok-came_to.field-0 (Some c.in-Some.ended) c.in_ok-came_to.ensures c.in-Some.is)
     (sym c.is_end.ensures ∙ c.if-is_end.true)
 
 pub returns-else-is_end : goal.returns-else-is_end
 returns-else-is_end g c =
-    other_end g.M.Machine.machine g.M.Machine.form c.args.framed.now c.args.budget.now c.args.rank c.args.unrolled.now c.requires.ready
+    other_end g.M.Machine.form c.args.framed.now c.args.budget.now c.args.rank c.args.unrolled.now c.requires.ready
     (frame_question c.args.asked) c.args.segments.now c.requires.segments c.args.root c.requires.root
     (wanted_by c.args.unrolled.now c.args.root c.index.result.now (frame_question c.args.asked) c.wants.result true c.requires.root c.index.ensures
     (c.wants.ensures (stacks_of c.args.unrolled.now.frames.items)) c.if-not-wants.false)
     c.in_ok-shown.shown c.in_ok-shown.ensures c.in-Some.ended
-    (came_as (whole_of_framed g.M.Machine.machine c.args.framed.now) c.args.rank c.args.budget.now.unroll c.args.budget.now.points g.M.Machine.form
+    (came_as (whole_of_framed c.args.framed.now) c.args.rank c.args.budget.now.unroll c.args.budget.now.points g.M.Machine.form
     (shown_of c.in_ok-shown.shown) c.in_ok-came_to.field-0 (Some c.in-Some.ended) c.in_ok-came_to.ensures c.in-Some.is)
     (sym c.is_end.ensures ∙ c.if-is_end.false)

@@ -6,7 +6,7 @@ use Rattle.frame_verdict.proofs.verifying.judge_frame.Goals as goal
 
 pub judge-requires-clause-ready : goal.judge-requires-clause-ready
 judge-requires-clause-ready g c =
-    subst (λ (z : Unrolled). IsReady g.M.Machine.machine g.M.Machine.form c.args.framed.now c.args.budget.now c.args.rank z) (sym c.in_ok-passive.ensures.of)
+    subst (λ (z : Unrolled). IsReady g.M.Machine.form c.args.framed.now c.args.budget.now c.args.rank z) (sym c.in_ok-passive.ensures.of)
     c.requires.ready
 
 pub judge-requires-clause-askable : goal.judge-requires-clause-askable

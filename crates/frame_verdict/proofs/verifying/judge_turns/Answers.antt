@@ -9,18 +9,18 @@ use Rattle.frame_verdict.proofs.verifying.judge_turns.Goals as goal
 pub shows-requires-clause-segments : goal.shows-requires-clause-segments
 shows-requires-clause-segments g c =
     answered c.args.passive.now.unrolled.now TurnQuestion c.args.budget.now.conflicts c.in_ok-segments.field-0 (Sat c.in-Sat.segments) c.in_ok-segments.ensures
-    c.in-Sat.is (frame_at g.M.Machine.machine c.args.framed.now c.args.rank) (contracts_of c.args.framed.now) c.args.budget.now.unroll g.M.Machine.form
+    c.in-Sat.is (frame_at c.args.framed.now c.args.rank) (contracts_of c.args.framed.now) c.args.budget.now.unroll g.M.Machine.form
     c.requires.ready.unrolled.ground
 
 pub shows-requires-clause-due : goal.shows-requires-clause-due
 shows-requires-clause-due g c =
     let ground = c.requires.ready.unrolled.ground in
-    turn_due (frame_at g.M.Machine.machine c.args.framed.now c.args.rank) ground.lawful ground.reads c.args.budget.now.unroll g.M.Machine.form
+    turn_due (frame_at c.args.framed.now c.args.rank) ground.lawful ground.reads c.args.budget.now.unroll g.M.Machine.form
     (written_of c.args.start) c.requires.entered c.args.fail c.requires.fail c.args.step c.requires.step
 
 pub returns-in-None : goal.returns-in-None
 returns-in-None g c =
-    let f = frame_at g.M.Machine.machine c.args.framed.now c.args.rank in
+    let f = frame_at c.args.framed.now c.args.rank in
     let ground = c.requires.ready.unrolled.ground in
     let k = c.args.budget.now.unroll in
     holds f ground.lawful ground.reads k g.M.Machine.form (written_of c.args.start) c.requires.entered c.args.fail c.requires.fail
@@ -30,7 +30,7 @@ returns-in-None g c =
 
 pub returns-in-Some : goal.returns-in-Some
 returns-in-Some g c =
-    let f = frame_at g.M.Machine.machine c.args.framed.now c.args.rank in
+    let f = frame_at c.args.framed.now c.args.rank in
     let ground = c.requires.ready.unrolled.ground in
     let k = c.args.budget.now.unroll in
     partial f ground.lawful ground.reads k g.M.Machine.form (written_of c.args.start) c.requires.entered c.args.fail c.requires.fail c.in-Some.step
@@ -40,7 +40,7 @@ returns-in-Some g c =
 
 pub returns-in-Spent : goal.returns-in-Spent
 returns-in-Spent g c =
-    let f = frame_at g.M.Machine.machine c.args.framed.now c.args.rank in
+    let f = frame_at c.args.framed.now c.args.rank in
     let ground = c.requires.ready.unrolled.ground in
     let k = c.args.budget.now.unroll in (
       turn_due f ground.lawful ground.reads k g.M.Machine.form (written_of c.args.start) c.requires.entered c.args.fail c.requires.fail c.args.step

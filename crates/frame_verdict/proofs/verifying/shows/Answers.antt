@@ -5,5 +5,5 @@ use Rattle.frame_verdict.proofs.verifying.shows.Goals as goal
 
 pub returns : goal.returns
 returns g c =
-    shown_end (whole_of_framed g.M.Machine.machine c.args.framed.now) c.args.rank c.args.budget.now.unroll g.M.Machine.form c.in_ok-ended.ended
+    shown_end (whole_of_framed c.args.framed.now) c.args.rank c.args.budget.now.unroll g.M.Machine.form c.in_ok-ended.ended
     (frame_question c.args.asked) c.in_ok-ended.ensures c.requires.due

@@ -1,6 +1,6 @@
 use Rattle.call_spec.specs.Calls.{EntryQuestion}
 use Rattle.start_value.specs.Starts.{written_of}
-use Rattle.verdict.specs.Functions.{program_of_function}
+use Rattle.program_value.specs.Programs.{program_of}
 use Rattle.model_verdict.specs.Models.{filler, listed}
 use Rattle.model_verdict.proofs.Endings.{entry_shown}
 use Rattle.model_verdict.proofs.Findings.{model_state}
@@ -8,7 +8,7 @@ use Rattle.model_verdict.proofs.accepting.entered.Goals as goal
 
 pub returns : goal.returns
 returns g c =
-    let p = program_of_function g.M.Machine.machine c.args.function.now in
+    let p = program_of c.args.program.now in
     let w = written_of c.args.start in
     let fill = filler c.args.memory.now in
     let bytes = listed c.args.memory.now in

@@ -1,4 +1,4 @@
-use Rattle.verdict.specs.Functions.{program_of_function}
+use Rattle.program_value.specs.Programs.{program_of}
 use Rattle.verdict.proofs.Grounding.{function_is_read}
 use Rattle.start_value.specs.Starts.{written_of}
 use Rattle.model_verdict.specs.Models.{filler, listed}
@@ -9,7 +9,7 @@ use Rattle.model_verdict.proofs.accepting.turned.Goals as goal
 
 pub unreachable-requires : goal.unreachable-requires
 unreachable-requires g c =
-    let p = program_of_function g.M.Machine.machine c.args.function.now in
+    let p = program_of c.args.program.now in
     let k = c.args.budget.now.unroll in
     let w = written_of c.args.start in
     let fill = filler c.args.memory.now in
@@ -22,7 +22,7 @@ unreachable-requires g c =
 
 pub returns : goal.returns
 returns g c =
-    let p = program_of_function g.M.Machine.machine c.args.function.now in
+    let p = program_of c.args.program.now in
     let k = c.args.budget.now.unroll in
     let w = written_of c.args.start in
     let fill = filler c.args.memory.now in
@@ -30,5 +30,5 @@ returns g c =
     λ r by. turned_shown p g.M.Machine.form k c.args.budget.now.points r c.in_ok-traced.traced
     (c.in_ok-traced.ensures r (model_state p k g.M.Machine.form TurnQuestion w fill bytes r by.start)
     (takes_choices p k g.M.Machine.form TurnQuestion w fill bytes r by.start by.choices)) w fill bytes c.requires.lawful
-    (function_is_read g.M.Machine.machine c.args.function.now g.met.M.Machine.lawful) c.with_bytes.result c.with_bytes.ensures by
+    (function_is_read c.args.program.now g.met.M.Machine.lawful) c.with_bytes.result c.with_bytes.ensures by
     c.in-Turned.at c.in-Turned.step c.in-Turned.is

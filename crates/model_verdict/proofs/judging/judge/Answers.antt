@@ -1,5 +1,5 @@
 use Rattle.question_form.specs.Views.{kind_of, unrolled_of}
-use Rattle.verdict.specs.Functions.{program_of_function}
+use Rattle.program_value.specs.Programs.{program_of}
 use Rattle.model_verdict.proofs.Findings.{judged_by, refused_by, some_reading, sound_by}
 use Rattle.model_verdict.proofs.Numbers.{within}
 use Rattle.model_verdict.proofs.judging.judge.Goals as goal
@@ -8,7 +8,7 @@ pub drawn_by_number-requires-clause-within : goal.drawn_by_number-requires-claus
 drawn_by_number-requires-clause-within g c =
     let u = unrolled_of c.args.passive.now.unrolled.now in
     let of = c.in_ok-numbers.ensures.numbers c.requires.ground.unrolling.points.once in
-    rw c.deref.ensures.value (within (program_of_function g.M.Machine.machine c.args.function.now) c.args.budget.now.unroll u c.requires.ground.unrolling
+    rw c.deref.ensures.value (within (program_of c.args.program.now) c.args.budget.now.unroll u c.requires.ground.unrolling
     c.in_ok-numbers.numbers.items of.0 of.1 of.2)
 
 pub drawn_by_number-requires-clause-distinct : goal.drawn_by_number-requires-clause-distinct
@@ -19,12 +19,12 @@ pub judge_model-requires-clause-within : goal.judge_model-requires-clause-within
 judge_model-requires-clause-within g c =
     let u = unrolled_of c.args.passive.now.unrolled.now in
     let of = c.in_ok-numbers.ensures.numbers c.requires.ground.unrolling.points.once in
-    rw c.deref-in-Ok-2.ensures.value (within (program_of_function g.M.Machine.machine c.args.function.now) c.args.budget.now.unroll u
+    rw c.deref-in-Ok-2.ensures.value (within (program_of c.args.program.now) c.args.budget.now.unroll u
     c.requires.ground.unrolling c.in_ok-numbers.numbers.items of.0 of.1 of.2)
 
 pub judge_model-requires-clause-sound : goal.judge_model-requires-clause-sound
 judge_model-requires-clause-sound g c =
-    let p = program_of_function g.M.Machine.machine c.args.function.now in
+    let p = program_of c.args.program.now in
     let k = c.args.budget.now.unroll in
     let u = unrolled_of c.args.passive.now.unrolled.now in
     let form = c.args.passive.now.unrolled.now.form in
@@ -40,7 +40,7 @@ judge_model-requires-clause-sound g c =
 
 pub judge_model-requires-clause-some : goal.judge_model-requires-clause-some
 judge_model-requires-clause-some g c =
-    let p = program_of_function g.M.Machine.machine c.args.function.now in
+    let p = program_of c.args.program.now in
     let k = c.args.budget.now.unroll in
     let u = unrolled_of c.args.passive.now.unrolled.now in
     let form = c.args.passive.now.unrolled.now.form in
@@ -56,7 +56,7 @@ judge_model-requires-clause-some g c =
 
 pub returns-in-Ok : goal.returns-in-Ok
 returns-in-Ok g c =
-    let p = program_of_function g.M.Machine.machine c.args.function.now in
+    let p = program_of c.args.program.now in
     let k = c.args.budget.now.unroll in
     let u = unrolled_of c.args.passive.now.unrolled.now in
     let form = c.args.passive.now.unrolled.now.form in
@@ -73,7 +73,7 @@ returns-in-Ok g c =
 
 pub returns-in-Err-Text : goal.returns-in-Err-Text
 returns-in-Err-Text g c =
-    let p = program_of_function g.M.Machine.machine c.args.function.now in
+    let p = program_of c.args.program.now in
     let k = c.args.budget.now.unroll in
     let u = unrolled_of c.args.passive.now.unrolled.now in
     let form = c.args.passive.now.unrolled.now.form in

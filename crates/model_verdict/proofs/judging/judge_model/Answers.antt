@@ -1,7 +1,7 @@
 use Rattle.std.proofs.Common.{length, subst, sym, true}
 use Rattle.question_form.specs.Views.{kind_of, unrolled_of}
 use Rattle.term_dag.specs.Readings.{reading_of}
-use Rattle.verdict.specs.Functions.{program_of_function}
+use Rattle.program_value.specs.Programs.{program_of}
 use Rattle.model_verdict.specs.Models.{IsSound}
 use Rattle.model_verdict.specs.Readings.{IsOfModel}
 use Rattle.model_verdict.proofs.Findings.{found_shown, found_untrue, is_truly}
@@ -15,7 +15,7 @@ is_true-requires-clause-memory g c = c.in_ok-reading.ensures.of.mem
 
 pub returns-then-not-branch : goal.returns-then-not-branch
 returns-then-not-branch g c =
-    let p = program_of_function g.M.Machine.machine c.args.function.now in
+    let p = program_of c.args.program.now in
     let u = unrolled_of c.args.passive.now.unrolled.now in
     let of = subst (λ l. IsOfModel u l c.args.numbers.now c.args.model.now (reading_of c.in_ok-reading.reading)) c.requires.form c.in_ok-reading.ensures.of in
     λ r modelled takes. found_untrue p c.args.budget.now.unroll g.M.Machine.form (kind_of c.args.kind) u c.requires.ground c.args.numbers.now c.args.model.now
@@ -26,7 +26,7 @@ accept-requires-clause-sound g c = subst (λ n. IsSound g.M.Machine.form n c.arg
 
 pub accept-requires-clause-some : goal.accept-requires-clause-some
 accept-requires-clause-some g c =
-    let p = program_of_function g.M.Machine.machine c.args.function.now in
+    let p = program_of c.args.program.now in
     let u = unrolled_of c.args.passive.now.unrolled.now in
     let of = subst (λ l. IsOfModel u l c.args.numbers.now c.args.model.now (reading_of c.in_ok-reading.reading)) c.requires.form c.in_ok-reading.ensures.of in
     let some = c.requires.some in (
@@ -37,7 +37,7 @@ accept-requires-clause-some g c =
 
 pub returns : goal.returns
 returns g c =
-    let p = program_of_function g.M.Machine.machine c.args.function.now in
+    let p = program_of c.args.program.now in
     let k = c.args.budget.now.unroll in
     let u = unrolled_of c.args.passive.now.unrolled.now in
     let of = subst (λ l. IsOfModel u l c.args.numbers.now c.args.model.now (reading_of c.in_ok-reading.reading)) c.requires.form c.in_ok-reading.ensures.of in

@@ -15,7 +15,7 @@ use Rattle.table_run.proofs.called.called_state.Goals as goal
 
 pub returns : goal.returns
 returns g c calls =
-    let few = c.requires.rank in
+    let few = c.args.frame.now.ranked in
     let other = c.if-frame.false in
     let rank : ℕ = c.args.frame.now.rank in
     let inside : rank < length c.args.frame.now.contracts.now = omega (arith, few, other) in
@@ -23,8 +23,8 @@ returns g c calls =
     let some : slice_get (map contract_of c.args.frame.now.contracts.now) rank ≡ Some x =
     slice_get-map contract_of c.args.frame.now.contracts.now rank
     ∙ ap (option_map contract_of) (slice_get-get_or c.args.frame.now.contracts.now rank c.index-frame-frame.result inside) in
-    own_state g.M.Machine.machine c.args.frame.now.image.now (notes_of c.args.frame.now.notes.now) c.args.frame.now.entry
+    own_state g.M.Machine.machine c.args.frame.now.program.image.now (notes_of c.args.frame.now.program.notes.now) c.args.frame.now.program.entry
     (map contract_of c.args.frame.now.contracts.now) rank x some g.M.Machine.form (written_of c.args.start.now) c.in_ok-memory.memory.entries
     (g.M.State.View.view c.make.result) c.make.ensures.view
-    (subst (λ (bytes : List (ℕ × ℕ)). (a : ℕ) → memory_of c.in_ok-memory.memory.entries a ≡ known_or (given c.args.frame.now.image.now [] (word 32 a)) bytes a)
+    (subst (λ (bytes : List (ℕ × ℕ)). (a : ℕ) → memory_of c.in_ok-memory.memory.entries a ≡ known_or (given c.args.frame.now.program.image.now [] (word 32 a)) bytes a)
     c.deref.ensures.value c.in_ok-memory.ensures.bytes)

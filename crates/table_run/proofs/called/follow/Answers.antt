@@ -9,7 +9,7 @@ use Rattle.frame_spec.specs.FrameReports.{WrittenCall, gifts}
 use Rattle.frame_texts_spec.specs.CallReplays.{block_at}
 use Rattle.notes_value.specs.FrameViews.{contract_of}
 use Rattle.state_text.specs.Starts.{written_call_of}
-use Rattle.table_run.specs.Programs.{program_of}
+use Rattle.program_value.specs.Programs.{program_of}
 use Rattle.table_run.specs.CalledFrames.{IsStanding, IsTurnEnd, frame_in, is_contract, own_of, turned, turned_wrong}
 use Rattle.table_run.specs.CalledRuns.{called_start}
 use Rattle.table_run.specs.declared.called_turns.Stand.{Stand}
@@ -23,7 +23,7 @@ loop-stack-init g c = record {
   within = (let some = c.requires.some in omega (arith, some));
   stands = tt;
   run = λ registers changed.
-      begins_running (program_of g.M.Machine.machine c.args.frame.now.program) (map contract_of c.args.frame.now.stepped.now) (own_of c.args.frame.now.own)
+      begins_running (program_of c.args.frame.now.program) (map contract_of c.args.frame.now.stepped.now) (own_of c.args.frame.now.own)
       c.args.limits.turns (g.M.State.View.view c.args.entry.now) (g.M.State.View.view c.args.state) c.args.choices.now registers
       (map written_call_of c.args.calls.now) c.new-stack.result.items c.requires.same c.new-stack.ensures.items (g.met.M.Machine.states c.args.entry.now)
       c.requires.kept;
@@ -31,9 +31,9 @@ loop-stack-init g c = record {
 
 pub returns-in-None : goal.returns-in-None
 returns-in-None g c registers changed =
-    let p : Program = program_of g.M.Machine.machine c.args.frame.now.program in
+    let p : Program = program_of c.args.frame.now.program in
     let stepped : List frames.Contract = map contract_of c.args.frame.now.stepped.now in
-    let f : frames.Frame = frame_in g.M.Machine.machine c.args.frame.now in
+    let f : frames.Frame = frame_in c.args.frame.now in
     let k = c.args.limits.turns in
     let last : ℕ = c.args.limits.steps - 1 in
     let calls : List WrittenCall = map written_call_of c.args.calls.now in
@@ -61,9 +61,9 @@ returns-in-None g c registers changed =
 
 pub returns-in-None-next_turns : goal.returns-in-None-next_turns
 returns-in-None-next_turns g c registers changed =
-    let p : Program = program_of g.M.Machine.machine c.args.frame.now.program in
+    let p : Program = program_of c.args.frame.now.program in
     let stepped : List frames.Contract = map contract_of c.args.frame.now.stepped.now in
-    let f : frames.Frame = frame_in g.M.Machine.machine c.args.frame.now in
+    let f : frames.Frame = frame_in c.args.frame.now in
     let k = c.args.limits.turns in
     let last : ℕ = c.args.limits.steps - 1 in
     let calls : List WrittenCall = map written_call_of c.args.calls.now in
@@ -94,9 +94,9 @@ returns-in-None-next_turns g c registers changed =
 
 pub returns-then-n-limits : goal.returns-then-n-limits
 returns-then-n-limits g c registers changed =
-    let p : Program = program_of g.M.Machine.machine c.args.frame.now.program in
+    let p : Program = program_of c.args.frame.now.program in
     let stepped : List frames.Contract = map contract_of c.args.frame.now.stepped.now in
-    let f : frames.Frame = frame_in g.M.Machine.machine c.args.frame.now in
+    let f : frames.Frame = frame_in c.args.frame.now in
     let k = c.args.limits.turns in
     let last : ℕ = c.args.limits.steps - 1 in
     let calls : List WrittenCall = map written_call_of c.args.calls.now in
@@ -143,9 +143,9 @@ loop-stack-preserved g c = record {
       (c.in_ok-end.ensures.stands r.place (gifts registers calls c.loop-stack.n) r.at
       (gift_is registers stepped calls c.loop-stack.n o changed c.block_at-block.ensures.first)));
   run = λ registers changed. (
-      let p : Program = program_of g.M.Machine.machine c.args.frame.now.program in
+      let p : Program = program_of c.args.frame.now.program in
       let stepped : List frames.Contract = map contract_of c.args.frame.now.stepped.now in
-      let f : frames.Frame = frame_in g.M.Machine.machine c.args.frame.now in
+      let f : frames.Frame = frame_in c.args.frame.now in
       let k = c.args.limits.turns in
       let last : ℕ = c.args.limits.steps - 1 in
       let calls : List WrittenCall = map written_call_of c.args.calls.now in

@@ -2,7 +2,7 @@ use Rattle.std.proofs.Common.{ℕ, ◌≤◌, ◌<◌, ◌-◌, List, map}
 use Rattle.std.specs.Prelude.{reverse}
 use Rattle.notes_value.specs.FrameViews.{contract_of}
 use Rattle.state_text.specs.Starts.{written_call_of}
-use Rattle.table_run.specs.Programs.{program_of}
+use Rattle.program_value.specs.Programs.{program_of}
 use Rattle.table_run.specs.CalledFrames.{IsStanding, frame_in}
 use Rattle.table_run.specs.CalledRuns.{AreChanged, called_start}
 use Rattle.table_run.proofs.CalledRuns.{IsRunning}
@@ -13,10 +13,10 @@ invariant-loop-stack g l = record {
   few : l.turns ≤ l.n;
   within : l.n < l.limits.steps;
   stands : IsStanding l.stand (map contract_of l.frame.stepped.now) (g.M.State.View.view l.state) l.stack.items;
-  run : (registers : ℕ → List ℕ) → AreChanged registers (frame_in g.M.Machine.machine l.frame).stepped →
-      IsRunning (frame_in g.M.Machine.machine l.frame) l.limits.turns
+  run : (registers : ℕ → List ℕ) → AreChanged registers (frame_in l.frame).stepped →
+      IsRunning (frame_in l.frame) l.limits.turns
       (called_start (g.M.State.View.view l.entry) l.choices registers (map written_call_of l.calls)) (map written_call_of l.calls)
-      (program_of g.M.Machine.machine l.frame.program) l.stand l.turns l.n l.called (g.M.State.View.view l.state) (reverse l.stack.items);
+      (program_of l.frame.program) l.stand l.turns l.n l.called (g.M.State.View.view l.state) (reverse l.stack.items);
 }
 
 abbrev pub decreases-loop-stack : goal.decreases-loop-stack

@@ -2,7 +2,7 @@ use Rattle.std.proofs.Common.{◌∙◌, ◌-◌, ap, take, map, sym, subst}
 use Rattle.std.proofs.lemmas.List.Elements.{All-take}
 use Rattle.word_spec.specs.Memory.{endian}
 use Rattle.word_spec.specs.State.{State}
-use Rattle.bilv_spec.specs.Files.{program_of}
+use Rattle.program_value.specs.Programs.{program_of}
 use Rattle.notes_value.specs.FrameViews.{contract_of}
 use Rattle.notes_value.specs.NoteViews.{notes_of}
 use Rattle.notes_value.specs.Reads.{IsReadableContract}
@@ -16,34 +16,32 @@ use Rattle.table_run.proofs.called.run_ranked.Goals as goal
 
 pub follow-requires-clause-frame : goal.follow-requires-clause-frame
 follow-requires-clause-frame g c = record {
-  order = c.is_big_machine-big.ensures ∙ c.requires.order;
-  readable = c.requires.readable;
   index = c.in_ok-index.ensures;
   stepped = All-take (λ x. IsReadableContract g.M.State.View.has_register (contract_of x)) c.args.frame.now.rank c.args.frame.now.contracts.now
-      c.requires.contracts;
-  own = own_readable g.M.State.View.has_register c.args.frame.now.contracts.now c.args.frame.now.rank c.deref.result.now c.own.result c.requires.contracts
+      c.args.frame.now.readable;
+  own = own_readable g.M.State.View.has_register c.args.frame.now.contracts.now c.args.frame.now.rank c.deref.result.now c.own.result c.args.frame.now.readable
       c.own.ensures.parts;
 }
 
 pub follow-requires-clause-lawful : goal.follow-requires-clause-lawful
 follow-requires-clause-lawful g c =
-    rows_of_file g.M.Machine.machine c.args.frame.now.image.now (notes_of c.args.frame.now.notes.now) c.args.frame.now.entry g.met.M.Machine.lawful
+    rows_of_file g.M.Machine.machine c.args.frame.now.program.image.now (notes_of c.args.frame.now.program.notes.now) c.args.frame.now.program.entry g.met.M.Machine.lawful
     c.bytes.ensures
 
 pub follow-requires-clause-kept : goal.follow-requires-clause-kept
 follow-requires-clause-kept g c =
-    subst (λ (s : State). HasKept (program_of g.M.Machine.machine c.args.frame.now.image.now (notes_of c.args.frame.now.notes.now) c.args.frame.now.entry) s)
+    subst (λ (s : State). HasKept (program_of c.args.frame.now.program) s)
     (sym c.in_ok-entry.ensures) c.requires.kept
 
 pub follow-requires-clause-own : goal.follow-requires-clause-own
 follow-requires-clause-own g c =
-    own_at (endian c.is_big_machine-big.result) g.M.Machine.machine.endian c.args.frame.now.contracts.now c.args.frame.now.rank c.deref.result.now
-    (g.M.State.View.view c.in_ok-entry.entry) c.own.result (c.is_big_machine-big.ensures ∙ c.requires.order)
+    own_at (endian c.args.frame.now.program.big) g.M.Machine.machine.endian c.args.frame.now.contracts.now c.args.frame.now.rank c.deref.result.now
+    (g.M.State.View.view c.in_ok-entry.entry) c.own.result (c.args.frame.now.program.big_is)
     (λ x is. ap bytes_of c.deref.ensures.value ∙ c.in_ok-spans.ensures x is) c.own.ensures.parts
 
 pub returns : goal.returns
 returns g c registers changed =
-    let p = program_of g.M.Machine.machine c.args.frame.now.image.now (notes_of c.args.frame.now.notes.now) c.args.frame.now.entry in
+    let p = program_of c.args.frame.now.program in
     let stepped = map contract_of (take c.args.frame.now.rank c.args.frame.now.contracts.now) in
     let calls = map written_call_of c.args.calls.now in
     let last = c.args.limits.steps - 1 in

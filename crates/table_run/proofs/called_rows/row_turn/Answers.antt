@@ -8,7 +8,7 @@ use Rattle.frame_spec.specs.Frames.{contract_at}
 use Rattle.frame_spec.specs.FrameRuns.{frame_step, links_by}
 use Rattle.notes_value.specs.FrameViews.{contract_of}
 use Rattle.state_text.specs.Starts.{event_of}
-use Rattle.table_run.specs.Programs.{program_of}
+use Rattle.program_value.specs.Programs.{program_of}
 use Rattle.table_run.specs.Traces.{unjudged}
 use Rattle.table_run.specs.CalledFrames.{IsLeft, frame_in, landed, own_of}
 use Rattle.table_run.proofs.CalledRows.{not_called, row_landed, row_lands, row_leaves, row_left, row_stops}
@@ -17,7 +17,7 @@ use Rattle.table_run.proofs.called_rows.row_turn.Goals as goal
 
 pub returns-in-Stops-clause-end : goal.returns-in-Stops-clause-end
 returns-in-Stops-clause-end g c =
-    let p : Program = program_of g.M.Machine.machine c.args.frame.now.program in
+    let p : Program = program_of c.args.frame.now.program in
     let stepped : List frames.Contract = map contract_of c.args.frame.now.stepped.now in
     let own = own_of c.args.frame.now.own in
     let entry : State = g.M.State.View.view c.args.entry.now in
@@ -30,13 +30,13 @@ returns-in-Stops-clause-end g c =
 
 pub returns-in-Exits-clause-end : goal.returns-in-Exits-clause-end
 returns-in-Exits-clause-end g c =
-    let p : Program = program_of g.M.Machine.machine c.args.frame.now.program in
+    let p : Program = program_of c.args.frame.now.program in
     let stepped : List frames.Contract = map contract_of c.args.frame.now.stepped.now in
     let own = own_of c.args.frame.now.own in
     let entry : State = g.M.State.View.view c.args.entry.now in
     let here : Place = record { state = g.M.State.View.view c.args.state.now; stack = reverse c.args.stack.now.items } in
     let s : State = g.M.State.View.view c.walk.new.state in
-    row_left c.leave_within.result s (reverse c.walk.new.stack.items) (frame_step (frame_in g.M.Machine.machine c.args.frame.now) entry here c.args.choice)
+    row_left c.leave_within.result s (reverse c.walk.new.stack.items) (frame_step (frame_in c.args.frame.now) entry here c.args.choice)
     (subst (IsLeft c.leave_within.result)
     (sym (row_leaves p stepped own entry here c.args.choice c.look_ahead-ahead.result.outside (c.look_ahead-ahead.ensures.outside entry c.requires.own) s
     (end_is c.in_ok-event.field-0 _ s (reverse c.walk.new.stack.items) (step (unjudged p) entry here c.args.choice) c.in-Exits.is c.in_ok-event.ensures.end)))
@@ -54,7 +54,7 @@ returns-in-Exits-clause-deeper g c is =
 
 pub returns-in-Arrives-clause-end : goal.returns-in-Arrives-clause-end
 returns-in-Arrives-clause-end g c =
-    let p : Program = program_of g.M.Machine.machine c.args.frame.now.program in
+    let p : Program = program_of c.args.frame.now.program in
     let stepped : List frames.Contract = map contract_of c.args.frame.now.stepped.now in
     let own = own_of c.args.frame.now.own in
     let entry : State = g.M.State.View.view c.args.entry.now in
@@ -72,7 +72,7 @@ returns-in-Arrives-clause-end g c =
     ∙ ap (λ b. is_some (contract_at stepped there.state.pc) && nat_lt (length here.stack) (length there.stack) && b) links in
     row_landed c.look_ahead-ahead.result.outside
     (is_some (contract_at stepped there.state.pc) && nat_lt (length here.stack) (length there.stack) && links_by row) there
-    (frame_step (frame_in g.M.Machine.machine c.args.frame.now) entry here c.args.choice)
+    (frame_step (frame_in c.args.frame.now) entry here c.args.choice)
     (row_lands p stepped own entry here c.args.choice c.look_ahead-ahead.result.outside (c.look_ahead-ahead.ensures.outside entry c.requires.own) there
     (end_is c.in_ok-event.field-0 _ there.state there.stack (step (unjudged p) entry here c.args.choice) c.in-Arrives.is c.in_ok-event.ensures.end))
     c.land.result (c.land.ensures ∙ ap (landed c.look_ahead-ahead.result.outside) same)

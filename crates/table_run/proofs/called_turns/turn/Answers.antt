@@ -9,7 +9,7 @@ use Rattle.frame_spec.specs.FrameRuns.{frame_step}
 use Rattle.frame_spec.specs.FrameReports.{WrittenCall}
 use Rattle.notes_value.specs.FrameViews.{contract_of}
 use Rattle.state_text.specs.Starts.{written_call_of}
-use Rattle.table_run.specs.Programs.{program_of}
+use Rattle.program_value.specs.Programs.{program_of}
 use Rattle.table_run.specs.CalledFrames.{IsStanding, IsTurnEnd, frame_in, own_of, program_in, turned, turned_wrong}
 use Rattle.table_run.specs.declared.called_turns.Stand.{Stand}
 use Rattle.table_run.proofs.SeenSteps.{contract_stands, contract_turned, kept_now, none_given, row_turned, some_given}
@@ -17,17 +17,17 @@ use Rattle.table_run.proofs.called_turns.turn.Goals as goal
 
 pub returns-then-is_some-clause-end : goal.returns-then-is_some-clause-end
 returns-then-is_some-clause-end g c there given n at gift =
-    let f = frame_in g.M.Machine.machine c.args.frame.now in
+    let f = frame_in c.args.frame.now in
     let o : Option WrittenCall = option_map (λ c. written_call_of c.now) c.args.block in
     ap (λ (s : Stand). turned_wrong s f (g.M.State.View.view c.args.entry.now) there o given n) c.in-Row.is
     ∙ some_given (λ c. written_call_of c.now) c.args.block n c.if-is_some.ensures
 
 pub returns-in_ok-end-in-Row-clause-end : goal.returns-in_ok-end-in-Row-clause-end
 returns-in_ok-end-in-Row-clause-end g c there given n at gift =
-    let p : Program = program_of g.M.Machine.machine c.args.frame.now.program in
+    let p : Program = program_of c.args.frame.now.program in
     let stepped : List frames.Contract = map contract_of c.args.frame.now.stepped.now in
     let own = own_of c.args.frame.now.own in
-    let f = frame_in g.M.Machine.machine c.args.frame.now in
+    let f = frame_in c.args.frame.now in
     let entry : State = g.M.State.View.view c.args.entry.now in
     let now : State = g.M.State.View.view c.args.state.now in
     let after : State = g.M.State.View.view c.row_turn.new.state in
@@ -44,10 +44,10 @@ returns-in_ok-end-in-Row-clause-end g c there given n at gift =
 
 pub returns-in_ok-end-in-Contract-clause-end : goal.returns-in_ok-end-in-Contract-clause-end
 returns-in_ok-end-in-Contract-clause-end g c there given n at gift =
-    let p : Program = program_of g.M.Machine.machine c.args.frame.now.program in
+    let p : Program = program_of c.args.frame.now.program in
     let stepped : List frames.Contract = map contract_of c.args.frame.now.stepped.now in
     let own = own_of c.args.frame.now.own in
-    let f = frame_in g.M.Machine.machine c.args.frame.now in
+    let f = frame_in c.args.frame.now in
     let entry : State = g.M.State.View.view c.args.entry.now in
     let now : State = g.M.State.View.view c.args.state.now in
     let after : State = g.M.State.View.view c.contract_turn.new.state in
@@ -61,7 +61,7 @@ returns-in_ok-end-in-Contract-clause-end g c there given n at gift =
 
 pub returns-in_ok-end-in-Contract-clause-stands : goal.returns-in_ok-end-in-Contract-clause-stands
 returns-in_ok-end-in-Contract-clause-stands g c there given at gift =
-    let p : Program = program_of g.M.Machine.machine c.args.frame.now.program in
+    let p : Program = program_of c.args.frame.now.program in
     let stepped : List frames.Contract = map contract_of c.args.frame.now.stepped.now in
     let own = own_of c.args.frame.now.own in
     let entry : State = g.M.State.View.view c.args.entry.now in

@@ -7,7 +7,7 @@ use Rattle.notes_value.specs.FrameViews.{contract_of}
 use Rattle.notes_value.specs.NoteViews.{note_line_of}
 use Rattle.notes_value.specs.Reads.{IsReadable}
 use Rattle.state_text.specs.Starts.{written_call_of}
-use Rattle.table_run.specs.Programs.{program_of}
+use Rattle.program_value.specs.Programs.{program_of}
 use Rattle.table_run.specs.CalledFrames.{changed_by, frame_in, own_of}
 use Rattle.table_run.proofs.ContractSteps.{breaks, given_is, goes}
 use Rattle.table_run.proofs.Lists.{unmapped}
@@ -20,7 +20,7 @@ false_line-requires g c =
 
 pub returns-in-None : goal.returns-in-None
 returns-in-None g c to below stacked kept clean =
-    let p : Program = program_of g.M.Machine.machine c.args.frame.now.program in
+    let p : Program = program_of c.args.frame.now.program in
     let x = contract_of c.args.contract.now in
     let w = written_call_of c.args.call.now in
     let n : ℕ = c.len-count.result - 1 in
@@ -33,14 +33,14 @@ returns-in-None g c to below stacked kept clean =
     (g.M.State.View.view c.give.new.state) (g.M.State.View.view c.in_ok-before.before) c.args.stack.now.items c.truncate.new.self.items c.index-to.result.now
     n to below x (given_by (changed_by x) w) (map note_line_of c.deref.result.now)
     (endian c.args.frame.now.program.big) stacked last top c.truncate.ensures.items
-    (c.in_ok-give.ensures (frame_in g.M.Machine.machine c.args.frame.now) refl c.requires.spans) c.in_ok-before.ensures c.requires.frame.order
+    (c.in_ok-give.ensures (frame_in c.args.frame.now) refl c.requires.spans) c.in_ok-before.ensures c.args.frame.now.program.big_is
     (ap (map note_line_of) c.deref.ensures.value)
     ((λ a cell low e k q. kept a cell low e k), g.met.M.Machine.states c.args.state.now) (given_is g.M.Machine.form (changed_by x) w c.requires.block)
     (g.met.M.Machine.states c.give.new.state) clean (sym c.in-None.is ∙ c.false_line.ensures)
 
 pub returns : goal.returns
 returns g c to below stacked kept clean =
-    let p : Program = program_of g.M.Machine.machine c.args.frame.now.program in
+    let p : Program = program_of c.args.frame.now.program in
     let x = contract_of c.args.contract.now in
     let w = written_call_of c.args.call.now in
     let n : ℕ = c.len-count.result - 1 in
@@ -53,7 +53,7 @@ returns g c to below stacked kept clean =
           (g.M.State.View.view c.give.new.state) (g.M.State.View.view c.in_ok-before.before) c.args.stack.now.items c.truncate.new.self.items
           c.index-to.result.now n to below x (given_by (changed_by x) w) (map note_line_of c.deref.result.now)
           (endian c.args.frame.now.program.big) stacked last top c.truncate.ensures.items
-          (c.in_ok-give.ensures (frame_in g.M.Machine.machine c.args.frame.now) refl c.requires.spans) c.in_ok-before.ensures c.requires.frame.order
+          (c.in_ok-give.ensures (frame_in c.args.frame.now) refl c.requires.spans) c.in_ok-before.ensures c.args.frame.now.program.big_is
           (ap (map note_line_of) c.deref.ensures.value) c.in-Some.line (sym c.in-Some.is ∙ c.false_line.ensures),
       refl,
     )

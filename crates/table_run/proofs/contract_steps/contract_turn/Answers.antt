@@ -13,7 +13,7 @@ use Rattle.notes_value.specs.FrameViews.{contract_of, writes_of}
 use Rattle.notes_value.specs.NoteViews.{note_line_of}
 use Rattle.notes_value.specs.Reads.{IsReadable}
 use Rattle.state_text.specs.Starts.{written_call_of}
-use Rattle.table_run.specs.Programs.{program_of}
+use Rattle.program_value.specs.Programs.{program_of}
 use Rattle.table_run.specs.Spans.{bytes_of}
 use Rattle.table_run.specs.CalledFrames.{own_of}
 use Rattle.table_run.proofs.ContractSteps.{readable_at, turn_kept, turn_needs, turn_not_given, turn_other, turn_outside, turn_returns}
@@ -42,7 +42,7 @@ come_back-requires-clause-contract g c =
 pub returns-in-Some-false_line : goal.returns-in-Some-false_line
 returns-in-Some-false_line g c entry given at gift has =
     let m = g.M.Machine.machine in
-    let p : Program = program_of m c.args.frame.now.program in
+    let p : Program = program_of c.args.frame.now.program in
     let stepped : List frames.Contract = map contract_of c.args.frame.now.stepped.now in
     let own = own_of c.args.frame.now.own in
     let s : State = g.M.State.View.view c.args.state.now in
@@ -54,12 +54,12 @@ returns-in-Some-false_line g c entry given at gift has =
     turn_needs p stepped own s entry items len x given found c.in-Some-false_line.line
     (sym c.in-Some-false_line.is
     ∙ line_meant (endian c.args.frame.now.program.big) m.endian c.deref.result.now c.in-Some.contract.now.needs.items s s c.false_line.result
-    c.requires.frame.order c.deref.ensures.value c.false_line.ensures)
+    c.args.frame.now.program.big_is c.deref.ensures.value c.false_line.ensures)
 
 pub returns-then-any_kept_of : goal.returns-then-any_kept_of
 returns-then-any_kept_of g c entry given at gift has =
     let m = g.M.Machine.machine in
-    let p : Program = program_of m c.args.frame.now.program in
+    let p : Program = program_of c.args.frame.now.program in
     let stepped : List frames.Contract = map contract_of c.args.frame.now.stepped.now in
     let own = own_of c.args.frame.now.own in
     let s : State = g.M.State.View.view c.args.state.now in
@@ -70,10 +70,10 @@ returns-then-any_kept_of g c entry given at gift has =
     let found : contract_at stepped s.pc ≡ Some x = ap (contract_at stepped) (sym c.pc-at.ensures) ∙ sym c.in-Some.ensures.first in
     let needs = sym c.in_default.is
     ∙ line_meant (endian c.args.frame.now.program.big) m.endian c.deref.result.now c.in-Some.contract.now.needs.items s s c.false_line.result
-    c.requires.frame.order c.deref.ensures.value c.false_line.ensures in
+    c.args.frame.now.program.big_is c.deref.ensures.value c.false_line.ensures in
     let bytes : List ℕ = bytes_of c.in_ok-spans.spans.items in
     let is_bytes : bytes ≡ written m.endian x.writes s =
-    c.in_ok-spans.ensures ∙ ap (λ (z : Endian). written z (map writes_of c.deref-2.result.now) s) c.requires.frame.order
+    c.in_ok-spans.ensures ∙ ap (λ (z : Endian). written z (map writes_of c.deref-2.result.now) s) c.args.frame.now.program.big_is
     ∙ ap (λ l. written m.endian (map writes_of l) s) c.deref-2.ensures.value in
     turn_kept p stepped own s entry items len x given found bytes is_bytes needs
     (c.if-any_kept_of.ensures ∙ ap (λ l. list_any (λ a. is_kept (p.loaded a)) (bytes_of l)) c.deref-3.ensures.value)
@@ -81,7 +81,7 @@ returns-then-any_kept_of g c entry given at gift has =
 pub returns-then-leaves_own : goal.returns-then-leaves_own
 returns-then-leaves_own g c entry given at gift has =
     let m = g.M.Machine.machine in
-    let p : Program = program_of m c.args.frame.now.program in
+    let p : Program = program_of c.args.frame.now.program in
     let stepped : List frames.Contract = map contract_of c.args.frame.now.stepped.now in
     let own = own_of c.args.frame.now.own in
     let s : State = g.M.State.View.view c.args.state.now in
@@ -92,10 +92,10 @@ returns-then-leaves_own g c entry given at gift has =
     let found : contract_at stepped s.pc ≡ Some x = ap (contract_at stepped) (sym c.pc-at.ensures) ∙ sym c.in-Some.ensures.first in
     let needs = sym c.in_default.is
     ∙ line_meant (endian c.args.frame.now.program.big) m.endian c.deref.result.now c.in-Some.contract.now.needs.items s s c.false_line.result
-    c.requires.frame.order c.deref.ensures.value c.false_line.ensures in
+    c.args.frame.now.program.big_is c.deref.ensures.value c.false_line.ensures in
     let bytes : List ℕ = bytes_of c.in_ok-spans.spans.items in
     let is_bytes : bytes ≡ written m.endian x.writes s =
-    c.in_ok-spans.ensures ∙ ap (λ (z : Endian). written z (map writes_of c.deref-2.result.now) s) c.requires.frame.order
+    c.in_ok-spans.ensures ∙ ap (λ (z : Endian). written z (map writes_of c.deref-2.result.now) s) c.args.frame.now.program.big_is
     ∙ ap (λ l. written m.endian (map writes_of l) s) c.deref-2.ensures.value in
     let kept = c.if-any_kept_of.ensures ∙ ap (λ l. list_any (λ a. is_kept (p.loaded a)) (bytes_of l)) c.deref-3.ensures.value in
     turn_outside p stepped own s entry items len x given found bytes is_bytes needs kept
@@ -104,7 +104,7 @@ returns-then-leaves_own g c entry given at gift has =
 pub returns-in-None-block : goal.returns-in-None-block
 returns-in-None-block g c entry given at gift has =
     let m = g.M.Machine.machine in
-    let p : Program = program_of m c.args.frame.now.program in
+    let p : Program = program_of c.args.frame.now.program in
     let stepped : List frames.Contract = map contract_of c.args.frame.now.stepped.now in
     let own = own_of c.args.frame.now.own in
     let s : State = g.M.State.View.view c.args.state.now in
@@ -115,10 +115,10 @@ returns-in-None-block g c entry given at gift has =
     let found : contract_at stepped s.pc ≡ Some x = ap (contract_at stepped) (sym c.pc-at.ensures) ∙ sym c.in-Some.ensures.first in
     let needs = sym c.in_default.is
     ∙ line_meant (endian c.args.frame.now.program.big) m.endian c.deref.result.now c.in-Some.contract.now.needs.items s s c.false_line.result
-    c.requires.frame.order c.deref.ensures.value c.false_line.ensures in
+    c.args.frame.now.program.big_is c.deref.ensures.value c.false_line.ensures in
     let bytes : List ℕ = bytes_of c.in_ok-spans.spans.items in
     let is_bytes : bytes ≡ written m.endian x.writes s =
-    c.in_ok-spans.ensures ∙ ap (λ (z : Endian). written z (map writes_of c.deref-2.result.now) s) c.requires.frame.order
+    c.in_ok-spans.ensures ∙ ap (λ (z : Endian). written z (map writes_of c.deref-2.result.now) s) c.args.frame.now.program.big_is
     ∙ ap (λ l. written m.endian (map writes_of l) s) c.deref-2.ensures.value in
     let kept = c.if-any_kept_of.ensures ∙ ap (λ l. list_any (λ a. is_kept (p.loaded a)) (bytes_of l)) c.deref-3.ensures.value in
     let within = c.if-leaves_own.ensures m.endian entry at ∙ ap (λ l. is_outside own m.endian entry (bytes_of l)) c.deref-4.ensures.value in
@@ -128,7 +128,7 @@ returns-in-None-block g c entry given at gift has =
 pub returns-then-not-is_of : goal.returns-then-not-is_of
 returns-then-not-is_of g c entry given at gift has =
     let m = g.M.Machine.machine in
-    let p : Program = program_of m c.args.frame.now.program in
+    let p : Program = program_of c.args.frame.now.program in
     let stepped : List frames.Contract = map contract_of c.args.frame.now.stepped.now in
     let own = own_of c.args.frame.now.own in
     let s : State = g.M.State.View.view c.args.state.now in
@@ -139,10 +139,10 @@ returns-then-not-is_of g c entry given at gift has =
     let found : contract_at stepped s.pc ≡ Some x = ap (contract_at stepped) (sym c.pc-at.ensures) ∙ sym c.in-Some.ensures.first in
     let needs = sym c.in_default.is
     ∙ line_meant (endian c.args.frame.now.program.big) m.endian c.deref.result.now c.in-Some.contract.now.needs.items s s c.false_line.result
-    c.requires.frame.order c.deref.ensures.value c.false_line.ensures in
+    c.args.frame.now.program.big_is c.deref.ensures.value c.false_line.ensures in
     let bytes : List ℕ = bytes_of c.in_ok-spans.spans.items in
     let is_bytes : bytes ≡ written m.endian x.writes s =
-    c.in_ok-spans.ensures ∙ ap (λ (z : Endian). written z (map writes_of c.deref-2.result.now) s) c.requires.frame.order
+    c.in_ok-spans.ensures ∙ ap (λ (z : Endian). written z (map writes_of c.deref-2.result.now) s) c.args.frame.now.program.big_is
     ∙ ap (λ l. written m.endian (map writes_of l) s) c.deref-2.ensures.value in
     let kept = c.if-any_kept_of.ensures ∙ ap (λ l. list_any (λ a. is_kept (p.loaded a)) (bytes_of l)) c.deref-3.ensures.value in
     let within = c.if-leaves_own.ensures m.endian entry at ∙ ap (λ l. is_outside own m.endian entry (bytes_of l)) c.deref-4.ensures.value in
@@ -157,7 +157,7 @@ returns-then-not-is_of g c entry given at gift has =
 pub returns : goal.returns
 returns g c entry given at gift has =
     let m = g.M.Machine.machine in
-    let p : Program = program_of m c.args.frame.now.program in
+    let p : Program = program_of c.args.frame.now.program in
     let stepped : List frames.Contract = map contract_of c.args.frame.now.stepped.now in
     let own = own_of c.args.frame.now.own in
     let s : State = g.M.State.View.view c.args.state.now in
@@ -168,10 +168,10 @@ returns g c entry given at gift has =
     let found : contract_at stepped s.pc ≡ Some x = ap (contract_at stepped) (sym c.pc-at.ensures) ∙ sym c.in-Some.ensures.first in
     let needs = sym c.in_default.is
     ∙ line_meant (endian c.args.frame.now.program.big) m.endian c.deref.result.now c.in-Some.contract.now.needs.items s s c.false_line.result
-    c.requires.frame.order c.deref.ensures.value c.false_line.ensures in
+    c.args.frame.now.program.big_is c.deref.ensures.value c.false_line.ensures in
     let bytes : List ℕ = bytes_of c.in_ok-spans.spans.items in
     let is_bytes : bytes ≡ written m.endian x.writes s =
-    c.in_ok-spans.ensures ∙ ap (λ (z : Endian). written z (map writes_of c.deref-2.result.now) s) c.requires.frame.order
+    c.in_ok-spans.ensures ∙ ap (λ (z : Endian). written z (map writes_of c.deref-2.result.now) s) c.args.frame.now.program.big_is
     ∙ ap (λ l. written m.endian (map writes_of l) s) c.deref-2.ensures.value in
     let kept = c.if-any_kept_of.ensures ∙ ap (λ l. list_any (λ a. is_kept (p.loaded a)) (bytes_of l)) c.deref-3.ensures.value in
     let within = c.if-leaves_own.ensures m.endian entry at ∙ ap (λ l. is_outside own m.endian entry (bytes_of l)) c.deref-4.ensures.value in

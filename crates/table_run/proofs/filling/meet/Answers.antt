@@ -3,28 +3,28 @@ use Rattle.std.specs.Prelude.{not}
 use Rattle.word_spec.specs.Memory.{Little, store}
 use Rattle.word_spec.specs.State.{State}
 use Rattle.machine_spec.specs.MachineLaws.{with_memory}
-use Rattle.table_run.specs.Programs.{program_of}
+use Rattle.program_value.specs.Programs.{program_of}
 use Rattle.table_run.proofs.Fillings.{unmet, fuller_same, fuller_put, one_larger, met_new}
 use Rattle.table_run.proofs.filling.meet.Goals as goal
 
 pub returns-then-has_met : goal.returns-then-has_met
 returns-then-has_met g c = record {
   fuller =
-      fuller_same (program_of g.M.Machine.machine c.args.p.now) c.args.model.now.fill c.args.model.now.bytes.now c.args.t.now.met
+      fuller_same (program_of c.args.p.now) c.args.model.now.fill c.args.model.now.bytes.now c.args.t.now.met
       (g.M.State.View.view c.args.t.now.entry) (g.M.State.View.view c.args.t.now.state);
-  met = sym (c.has_met.ensures g.M.Machine.machine) ∙ c.if-has_met.true;
+  met = sym c.has_met.ensures ∙ c.if-has_met.true;
   read = refl;
 }
 
 pub returns : goal.returns
 returns g c =
-    let p = program_of g.M.Machine.machine c.args.p.now in
+    let p = program_of c.args.p.now in
     let fill = c.args.model.now.fill in
     let bytes = c.args.model.now.bytes.now in
     let old = c.args.t.now in
     let a = c.args.a in
     let byte = c.byte_of-byte.result in
-    let away = sym (c.has_met.ensures g.M.Machine.machine) ∙ c.if-has_met.false in
+    let away = sym c.has_met.ensures ∙ c.if-has_met.false in
     let new = c.in_ok-insert.ensures.added ∙ ap not (unmet p fill bytes old.met a away).1 in
     record {
       fuller =

@@ -1,12 +1,12 @@
 use Rattle.std.proofs.Common.{refl, ◌∙◌, arith}
-use Rattle.table_run.specs.Programs.{program_of}
+use Rattle.program_value.specs.Programs.{program_of}
 use Rattle.table_run.proofs.Fillings.{fuller_same, fuller_then, met_next, each_met}
 use Rattle.table_run.proofs.filling.meet_all.Goals as goal
 
 pub loop-a-init : goal.loop-a-init
 loop-a-init g c = record {
   fuller =
-      fuller_same (program_of g.M.Machine.machine c.args.p.now) c.args.model.now.fill c.args.model.now.bytes.now c.args.t.now.met
+      fuller_same (program_of c.args.p.now) c.args.model.now.fill c.args.model.now.bytes.now c.args.t.now.met
       (g.M.State.View.view c.args.t.now.entry) (g.M.State.View.view c.args.t.now.state);
   met = λ k less. absurd (omega arith);
   read = refl;
@@ -14,7 +14,7 @@ loop-a-init g c = record {
 
 pub loop-a-preserved : goal.loop-a-preserved
 loop-a-preserved g c =
-    let p = program_of g.M.Machine.machine c.args.p.now in
+    let p = program_of c.args.p.now in
     let old = c.args.t.now in
     let some = c.loop-a.t in
     let new = c.meet.new.t in
@@ -31,5 +31,5 @@ loop-a-preserved g c =
 
 pub returns-clause-met : goal.returns-clause-met
 returns-clause-met g c =
-    each_met (program_of g.M.Machine.machine c.args.p.now) c.args.model.now.fill c.args.model.now.bytes.now c.loop-a.t.met c.args.places.now
+    each_met (program_of c.args.p.now) c.args.model.now.fill c.args.model.now.bytes.now c.loop-a.t.met c.args.places.now
     (λ k less. c.loop-a.invariant.met k (omega arith))

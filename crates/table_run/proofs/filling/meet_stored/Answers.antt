@@ -1,13 +1,13 @@
 use Rattle.std.proofs.Common.{refl, ap, ◌∙◌, ◌++◌}
 use Rattle.std.specs.Option.{option_map}
 use Rattle.machine_spec.specs.Machine.{Row, addresses}
-use Rattle.table_run.specs.Programs.{program_of}
+use Rattle.program_value.specs.Programs.{program_of}
 use Rattle.table_run.proofs.Fillings.{fuller_same, stored_none, stored_some}
 use Rattle.table_run.proofs.filling.meet_stored.Goals as goal
 
 pub returns-in-None : goal.returns-in-None
 returns-in-None g c =
-    let p = program_of g.M.Machine.machine c.args.p.now in
+    let p = program_of c.args.p.now in
     let old = c.args.t.now in
     let entry = g.M.State.View.view old.entry in
     let now = g.M.State.View.view old.state in
@@ -21,7 +21,7 @@ returns-in-None g c =
 
 pub returns-clause-met : goal.returns-clause-met
 returns-clause-met g c =
-    let p = program_of g.M.Machine.machine c.args.p.now in
+    let p = program_of c.args.p.now in
     let old = c.args.t.now in
     let row : Row = g.M.Machine.row c.in-Some.insn in
     let now = g.M.State.View.view old.state in

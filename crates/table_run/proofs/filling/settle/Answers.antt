@@ -1,6 +1,6 @@
 use Rattle.std.proofs.Common.{refl, ap, sym, ◌∙◌, subst, arith}
 use Rattle.word_spec.specs.State.{State}
-use Rattle.table_run.specs.Programs.{program_of}
+use Rattle.program_value.specs.Programs.{program_of}
 use Rattle.table_run.specs.Traces.{AreMet, stage_reads}
 use Rattle.table_run.proofs.Fillings.{fuller_same, fuller_then, not_grown, has_grown}
 use Rattle.table_run.proofs.filling.settle.Goals as goal
@@ -8,7 +8,7 @@ use Rattle.table_run.proofs.filling.settle.Goals as goal
 pub settling-init : goal.settling-init
 settling-init g c = record {
   fuller =
-      fuller_same (program_of g.M.Machine.machine c.args.p.now) c.args.model.now.fill c.args.model.now.bytes.now c.args.t.now.met
+      fuller_same (program_of c.args.p.now) c.args.model.now.fill c.args.model.now.bytes.now c.args.t.now.met
       (g.M.State.View.view c.args.t.now.entry) (g.M.State.View.view c.args.t.now.state);
   read = refl;
 }
@@ -20,7 +20,7 @@ settling-preserved g c =
     let new = c.meet_all.new.t in
     record {
       fuller =
-          fuller_then (program_of g.M.Machine.machine c.args.p.now) c.args.model.now.fill c.args.model.now.bytes.now old.met some.met new.met
+          fuller_then (program_of c.args.p.now) c.args.model.now.fill c.args.model.now.bytes.now old.met some.met new.met
           (g.M.State.View.view old.entry) (g.M.State.View.view some.entry) (g.M.State.View.view new.entry) (g.M.State.View.view old.state)
           (g.M.State.View.view some.state) (g.M.State.View.view new.state) c.settling.invariant.fuller c.in_ok-meet_all.ensures.fuller;
       read = c.in_ok-meet_all.ensures.read ∙ c.settling.invariant.read;
@@ -32,7 +32,7 @@ settling-smaller g c =
     let new = c.meet_all.new.t in
     let other = c.if-len-before.false in
     let more =
-    has_grown (program_of g.M.Machine.machine c.args.p.now) c.args.model.now.fill c.args.model.now.bytes.now some.met new.met (g.M.State.View.view some.entry)
+    has_grown (program_of c.args.p.now) c.args.model.now.fill c.args.model.now.bytes.now some.met new.met (g.M.State.View.view some.entry)
     (g.M.State.View.view new.entry) (g.M.State.View.view some.state) (g.M.State.View.view new.state) c.in_ok-meet_all.ensures.fuller
     (λ same. other (c.len.ensures.len ∙ same ∙ sym c.len-before.ensures.len)) in
     let small = c.len.ensures.small in
@@ -40,7 +40,7 @@ settling-smaller g c =
 
 pub returns-then-len-before : goal.returns-then-len-before
 returns-then-len-before g c =
-    let p = program_of g.M.Machine.machine c.args.p.now in
+    let p = program_of c.args.p.now in
     let old = c.args.t.now in
     let some = c.settling.t in
     let new = c.meet_all.new.t in

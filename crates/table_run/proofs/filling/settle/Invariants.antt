@@ -1,11 +1,11 @@
 use Rattle.std.proofs.Common.{◌≡◌, ◌-◌, ◌^◌, length}
-use Rattle.table_run.specs.Programs.{program_of}
+use Rattle.program_value.specs.Programs.{program_of}
 use Rattle.table_run.specs.Traces.{IsFuller}
 use Rattle.table_run.proofs.filling.settle.Given as goal
 
 abbrev pub invariant-settling : goal.invariant-settling
 invariant-settling g l = record {
-  fuller : IsFuller (program_of g.M.Machine.machine l.p) l.model.fill l.model.bytes.now l.fn.t.met l.t.met
+  fuller : IsFuller (program_of l.p) l.model.fill l.model.bytes.now l.fn.t.met l.t.met
       (g.M.State.View.view l.fn.t.entry) (g.M.State.View.view l.t.entry) (g.M.State.View.view l.fn.t.state) (g.M.State.View.view l.t.state);
   read : l.t.read ≡ l.fn.t.read;
 }

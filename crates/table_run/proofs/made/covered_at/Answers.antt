@@ -12,7 +12,7 @@ use Rattle.notes_value.specs.FrameViews.{contract_of, writes_of}
 use Rattle.notes_value.specs.Reads.{IsReadable}
 use Rattle.state_text.specs.Starts.{written_call_of}
 use Rattle.state_text.specs.declared.start.CallState.{CallState}
-use Rattle.table_run.specs.Programs.{program_of}
+use Rattle.program_value.specs.Programs.{program_of}
 use Rattle.table_run.specs.Spans.{bytes_of}
 use Rattle.table_run.specs.CalledFrames.{IsBlock, frame_in, own_of}
 use Rattle.table_run.specs.MadeCalls.{covered}
@@ -32,7 +32,7 @@ writable-requires g c =
 pub returns-in-None-clause-handed : goal.returns-in-None-clause-handed
 returns-in-None-clause-handed g c called =
     let here : Place = record { state = g.M.State.View.view c.args.state.now; stack = [] } in
-    ap (option_map (covered (frame_in g.M.Machine.machine c.args.frame.now) here)) c.in-None.ensures.first
+    ap (option_map (covered (frame_in c.args.frame.now) here)) c.in-None.ensures.first
 
 pub returns-in-None-contract_at-clause-handed : goal.returns-in-None-contract_at-clause-handed
 returns-in-None-contract_at-clause-handed g c called =
@@ -42,7 +42,7 @@ returns-in-None-contract_at-clause-handed g c called =
 pub returns-clause-handed : goal.returns-clause-handed
 returns-clause-handed g c called =
     let m = g.M.Machine.machine in
-    let p : Program = program_of m c.args.frame.now.program in
+    let p : Program = program_of c.args.frame.now.program in
     let stepped : List frames.Contract = map contract_of c.args.frame.now.stepped.now in
     let s : State = g.M.State.View.view c.args.state.now in
     let here : Place = record { state = s; stack = [] } in
@@ -50,11 +50,11 @@ returns-clause-handed g c called =
     let found : contract_at stepped s.pc ≡ Some x = ap (contract_at stepped) (sym c.pc.ensures) ∙ sym c.in-Some-contract_at.ensures.first in
     let places : bytes_of c.deref-2.result.now ≡ written m.endian x.writes s =
     ap bytes_of c.deref-2.ensures.value ∙ c.in_ok-spans.ensures
-    ∙ ap (λ (z : Endian). written z (map writes_of c.deref.result.now) s) c.requires.frame.order
+    ∙ ap (λ (z : Endian). written z (map writes_of c.deref.result.now) s) c.args.frame.now.program.big_is
     ∙ ap (λ l. written m.endian (map writes_of l) s) c.deref.ensures.value in
     ap (λ (w : WrittenCall). Some w) (c.in_ok-block.ensures
     ∙ covered_is p stepped (own_of c.args.frame.now.own) s x (written_call_of c.in-Some.call.now) (bytes_of c.deref-2.result.now) found places)
-    ∙ ap (option_map (covered (frame_in m c.args.frame.now) here)) c.in-Some.ensures.first
+    ∙ ap (option_map (covered (frame_in c.args.frame.now) here)) c.in-Some.ensures.first
 
 pub returns-clause-block : goal.returns-clause-block
 returns-clause-block g c =

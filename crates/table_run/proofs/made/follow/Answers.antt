@@ -10,7 +10,7 @@ use Rattle.frame_spec.specs.FrameReports.{WrittenCall}
 use Rattle.frame_texts_spec.specs.CallReplays.{block_at}
 use Rattle.notes_value.specs.FrameViews.{contract_of}
 use Rattle.state_text.specs.Starts.{written_call_of}
-use Rattle.table_run.specs.Programs.{program_of}
+use Rattle.program_value.specs.Programs.{program_of}
 use Rattle.table_run.specs.CalledFrames.{IsBlock, IsStanding, frame_in, own_of, program_in}
 use Rattle.table_run.specs.CalledRuns.{called_start}
 use Rattle.table_run.specs.MadeCalls.{handed, kept_of, shown_in}
@@ -26,12 +26,12 @@ loop-made-init g c = record {
   few = omega arith;
   within = (let some = c.requires.some in omega (arith, some));
   stands = tt;
-  somewhere = (let r = begins_walking (program_of g.M.Machine.machine c.args.frame.now.program) (map contract_of c.args.frame.now.stepped.now)
+  somewhere = (let r = begins_walking (program_of c.args.frame.now.program) (map contract_of c.args.frame.now.stepped.now)
       (own_of c.args.frame.now.own) c.args.limits.turns (g.M.State.View.view c.args.entry.now) (g.M.State.View.view c.args.state) c.args.choices.now (λ a. [])
       (map written_call_of c.args.calls.now) c.new-stack.result.items [] c.requires.same c.new-stack.ensures.items refl
       (g.met.M.Machine.states c.args.entry.now) c.requires.kept in (r.place, r.at));
   run = λ registers changed listed.
-      begins_walking (program_of g.M.Machine.machine c.args.frame.now.program) (map contract_of c.args.frame.now.stepped.now) (own_of c.args.frame.now.own)
+      begins_walking (program_of c.args.frame.now.program) (map contract_of c.args.frame.now.stepped.now) (own_of c.args.frame.now.own)
       c.args.limits.turns (g.M.State.View.view c.args.entry.now) (g.M.State.View.view c.args.state) c.args.choices.now registers
       (map written_call_of c.args.calls.now) c.new-stack.result.items (map written_call_of c.new-made.result.items) c.requires.same c.new-stack.ensures.items
       (ap (map written_call_of) c.new-made.ensures.items) (g.met.M.Machine.states c.args.entry.now) c.requires.kept;
@@ -39,10 +39,10 @@ loop-made-init g c = record {
 
 pub returns-in-None : goal.returns-in-None
 returns-in-None g c registers changed listed =
-    let p : Program = program_of g.M.Machine.machine c.args.frame.now.program in
+    let p : Program = program_of c.args.frame.now.program in
     let stepped : List frames.Contract = map contract_of c.args.frame.now.stepped.now in
     let own = own_of c.args.frame.now.own in
-    let f : frames.Frame = frame_in g.M.Machine.machine c.args.frame.now in
+    let f : frames.Frame = frame_in c.args.frame.now in
     let k = c.args.limits.turns in
     let count : ℕ = c.args.limits.steps in
     let entry : State = g.M.State.View.view c.args.entry.now in
@@ -70,10 +70,10 @@ returns-in-None g c registers changed listed =
 
 pub returns-in-None-next_turns : goal.returns-in-None-next_turns
 returns-in-None-next_turns g c registers changed listed =
-    let p : Program = program_of g.M.Machine.machine c.args.frame.now.program in
+    let p : Program = program_of c.args.frame.now.program in
     let stepped : List frames.Contract = map contract_of c.args.frame.now.stepped.now in
     let own = own_of c.args.frame.now.own in
-    let f : frames.Frame = frame_in g.M.Machine.machine c.args.frame.now in
+    let f : frames.Frame = frame_in c.args.frame.now in
     let k = c.args.limits.turns in
     let count : ℕ = c.args.limits.steps in
     let entry : State = g.M.State.View.view c.args.entry.now in
@@ -106,10 +106,10 @@ returns-in-None-next_turns g c registers changed listed =
 
 pub returns-then-n-limits : goal.returns-then-n-limits
 returns-then-n-limits g c registers changed listed =
-    let p : Program = program_of g.M.Machine.machine c.args.frame.now.program in
+    let p : Program = program_of c.args.frame.now.program in
     let stepped : List frames.Contract = map contract_of c.args.frame.now.stepped.now in
     let own = own_of c.args.frame.now.own in
-    let f : frames.Frame = frame_in g.M.Machine.machine c.args.frame.now in
+    let f : frames.Frame = frame_in c.args.frame.now in
     let k = c.args.limits.turns in
     let count : ℕ = c.args.limits.steps in
     let entry : State = g.M.State.View.view c.args.entry.now in
@@ -152,7 +152,7 @@ loop-made-preserved g c = record {
       subst (λ (s : Stand). IsStanding s stepped (g.M.State.View.view c.turn.new.state) c.turn.new.stack.items)
       (stands_next c.in_ok-end.end c.in-Some.next (sym c.next_stand.ensures ∙ c.in-Some.is))
       (c.in_ok-end.ensures.stands there.0 (gift_of registers block) there.1 (gift_given registers stepped block (own_changed stepped))));
-  somewhere = (let p : Program = program_of g.M.Machine.machine c.args.frame.now.program in
+  somewhere = (let p : Program = program_of c.args.frame.now.program in
       let stepped : List frames.Contract = map contract_of c.args.frame.now.stepped.now in
       let registers = own_registers stepped in
       let block : Option WrittenCall = option_map (λ z. written_call_of z.now) c.as_ref.result in
@@ -161,10 +161,10 @@ loop-made-preserved g c = record {
       (sym c.next_stand.ensures ∙ c.in-Some.is)
       (c.in_ok-end.ensures.end there.0 (gift_of registers block) c.loop-made.n there.1 (gift_given registers stepped block (own_changed stepped))));
   run = λ registers changed listed. (
-      let p : Program = program_of g.M.Machine.machine c.args.frame.now.program in
+      let p : Program = program_of c.args.frame.now.program in
       let stepped : List frames.Contract = map contract_of c.args.frame.now.stepped.now in
       let own = own_of c.args.frame.now.own in
-      let f : frames.Frame = frame_in g.M.Machine.machine c.args.frame.now in
+      let f : frames.Frame = frame_in c.args.frame.now in
       let k = c.args.limits.turns in
       let count : ℕ = c.args.limits.steps in
       let entry : State = g.M.State.View.view c.args.entry.now in

@@ -3,7 +3,7 @@ use Rattle.std.specs.Prelude.{reverse}
 use Rattle.bilv_spec.specs.Run.{Place}
 use Rattle.notes_value.specs.FrameViews.{contract_of}
 use Rattle.state_text.specs.Starts.{written_call_of}
-use Rattle.table_run.specs.Programs.{program_of}
+use Rattle.program_value.specs.Programs.{program_of}
 use Rattle.table_run.specs.CalledFrames.{IsAt, IsStanding, frame_in}
 use Rattle.table_run.specs.CalledRuns.{AreChanged, called_start}
 use Rattle.table_run.specs.MadeCalls.{AreListed}
@@ -15,13 +15,13 @@ invariant-loop-made g l = record {
   few : l.turns ≤ l.n;
   within : l.n < l.limits.steps;
   stands : IsStanding l.stand (map contract_of l.frame.stepped.now) (g.M.State.View.view l.state) l.stack.items;
-  somewhere : (c : Place) × IsAt (program_of g.M.Machine.machine l.frame.program) c (g.M.State.View.view l.state) (reverse l.stack.items);
-  run : (registers : ℕ → List ℕ) → AreChanged registers (frame_in g.M.Machine.machine l.frame).stepped →
-      AreListed (frame_in g.M.Machine.machine l.frame) l.limits.turns
+  somewhere : (c : Place) × IsAt (program_of l.frame.program) c (g.M.State.View.view l.state) (reverse l.stack.items);
+  run : (registers : ℕ → List ℕ) → AreChanged registers (frame_in l.frame).stepped →
+      AreListed (frame_in l.frame) l.limits.turns
       (called_start (g.M.State.View.view l.entry) l.choices registers (map written_call_of l.calls)) (map written_call_of l.calls) l.limits.steps →
-      IsWalking (frame_in g.M.Machine.machine l.frame) l.limits.turns
+      IsWalking (frame_in l.frame) l.limits.turns
       (called_start (g.M.State.View.view l.entry) l.choices registers (map written_call_of l.calls)) (map written_call_of l.calls)
-      (program_of g.M.Machine.machine l.frame.program) l.stand l.turns l.n (g.M.State.View.view l.state) (reverse l.stack.items)
+      (program_of l.frame.program) l.stand l.turns l.n (g.M.State.View.view l.state) (reverse l.stack.items)
       (map written_call_of l.made.items);
 }
 

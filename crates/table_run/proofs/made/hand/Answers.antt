@@ -13,7 +13,7 @@ use Rattle.table_run.proofs.made.hand.Goals as goal
 pub returns-in-Row-clause-handed : goal.returns-in-Row-clause-handed
 returns-in-Row-clause-handed g c stack stands =
     let here : Place = record { state = g.M.State.View.view c.args.state.now; stack = [] } in
-    sym (ap (λ (s : Stand). handed s (frame_in g.M.Machine.machine c.args.frame.now) here (block_at (map written_call_of c.args.calls.now) c.args.step))
+    sym (ap (λ (s : Stand). handed s (frame_in c.args.frame.now) here (block_at (map written_call_of c.args.calls.now) c.args.step))
     c.in-Row.is)
 
 pub returns-in_ok-block-in-Contract-clause-handed : goal.returns-in_ok-block-in-Contract-clause-handed
@@ -23,5 +23,5 @@ returns-in_ok-block-in-Contract-clause-handed g c stack stands =
     let stepped : List frames.Contract = map contract_of c.args.frame.now.stepped.now in
     let there = subst (λ (z : Stand). IsStanding z stepped s stack) c.in-Contract.is stands in
     c.in_ok-block-in-Contract.ensures.handed there.0
-    ∙ sym (ap (λ (z : Stand). handed z (frame_in g.M.Machine.machine c.args.frame.now) here
+    ∙ sym (ap (λ (z : Stand). handed z (frame_in c.args.frame.now) here
     (block_at (map written_call_of c.args.calls.now) c.args.step)) c.in-Contract.is)

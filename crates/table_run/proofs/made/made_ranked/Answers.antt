@@ -3,7 +3,7 @@ use Rattle.std.specs.Prelude.{slice_get}
 use Rattle.std.proofs.lemmas.List.Elements.{All-map, All-take}
 use Rattle.word_spec.specs.Memory.{endian}
 use Rattle.word_spec.specs.State.{State}
-use Rattle.bilv_spec.specs.Files.{program_of}
+use Rattle.program_value.specs.Programs.{program_of}
 use Rattle.bilv_spec.specs.PointLaws.{ReadsMemory}
 use Rattle.bilv_spec.specs.Run.{Program}
 use Rattle.frame_spec.specs.Frames as frames
@@ -23,34 +23,32 @@ use Rattle.table_run.proofs.made.made_ranked.Goals as goal
 
 pub follow-requires-clause-frame : goal.follow-requires-clause-frame
 follow-requires-clause-frame g c = record {
-  order = c.is_big_machine-big.ensures ∙ c.requires.order;
-  readable = c.requires.readable;
   index = c.in_ok-index.ensures;
   stepped = All-take (λ x. IsReadableContract g.M.State.View.has_register (contract_of x)) c.args.frame.now.rank c.args.frame.now.contracts.now
-      c.requires.contracts;
-  own = own_readable g.M.State.View.has_register c.args.frame.now.contracts.now c.args.frame.now.rank c.deref.result.now c.own.result c.requires.contracts
+      c.args.frame.now.readable;
+  own = own_readable g.M.State.View.has_register c.args.frame.now.contracts.now c.args.frame.now.rank c.deref.result.now c.own.result c.args.frame.now.readable
       c.own.ensures.parts;
 }
 
 pub follow-requires-clause-lawful : goal.follow-requires-clause-lawful
 follow-requires-clause-lawful g c =
-    rows_of_file g.M.Machine.machine c.args.frame.now.image.now (notes_of c.args.frame.now.notes.now) c.args.frame.now.entry g.met.M.Machine.lawful
+    rows_of_file g.M.Machine.machine c.args.frame.now.program.image.now (notes_of c.args.frame.now.program.notes.now) c.args.frame.now.program.entry g.met.M.Machine.lawful
     c.bytes.ensures
 
 pub follow-requires-clause-kept : goal.follow-requires-clause-kept
 follow-requires-clause-kept g c =
-    subst (λ (s : State). HasKept (program_of g.M.Machine.machine c.args.frame.now.image.now (notes_of c.args.frame.now.notes.now) c.args.frame.now.entry) s)
+    subst (λ (s : State). HasKept (program_of c.args.frame.now.program) s)
     (sym c.in_ok-entry.ensures) c.requires.kept
 
 pub follow-requires-clause-own : goal.follow-requires-clause-own
 follow-requires-clause-own g c =
-    own_at (endian c.is_big_machine-big.result) g.M.Machine.machine.endian c.args.frame.now.contracts.now c.args.frame.now.rank c.deref.result.now
-    (g.M.State.View.view c.in_ok-entry.entry) c.own.result (c.is_big_machine-big.ensures ∙ c.requires.order)
+    own_at (endian c.args.frame.now.program.big) g.M.Machine.machine.endian c.args.frame.now.contracts.now c.args.frame.now.rank c.deref.result.now
+    (g.M.State.View.view c.in_ok-entry.entry) c.own.result (c.args.frame.now.program.big_is)
     (λ x is. ap bytes_of c.deref.ensures.value ∙ c.in_ok-spans.ensures x is) c.own.ensures.parts
 
 pub returns : goal.returns
 returns g c registers changed listed =
-    let p : Program = program_of g.M.Machine.machine c.args.frame.now.image.now (notes_of c.args.frame.now.notes.now) c.args.frame.now.entry in
+    let p : Program = program_of c.args.frame.now.program in
     let stepped : List frames.Contract = map contract_of (take c.args.frame.now.rank c.args.frame.now.contracts.now) in
     let own = slice_get (map contract_of c.args.frame.now.contracts.now) c.args.frame.now.rank in
     let entry : State = g.M.State.View.view c.args.state in
@@ -67,7 +65,7 @@ returns g c registers changed listed =
     subst (λ o. AreListed (called_frame p stepped o) k (called_start (g.M.State.View.view c.in_ok-entry.entry) choices registers calls) calls count) (sym same)
     (subst (λ s. AreListed (called_frame p stepped own) k (called_start s choices registers calls) calls count) (sym here) listed) in
     is_shown p stepped own k entry choices registers g.M.Machine.form
-    (rows_of_file g.M.Machine.machine c.args.frame.now.image.now (notes_of c.args.frame.now.notes.now) c.args.frame.now.entry g.met.M.Machine.lawful
+    (rows_of_file g.M.Machine.machine c.args.frame.now.program.image.now (notes_of c.args.frame.now.program.notes.now) c.args.frame.now.program.entry g.met.M.Machine.lawful
     c.bytes.ensures)
     memory (g.met.M.Machine.states c.args.state) c.requires.kept calls
     (All-map (IsBlock g.M.Machine.form) written_call_of c.args.calls.now c.requires.blocks) (rising_calls c.args.calls.now c.requires.calls) count listed list

@@ -3,7 +3,7 @@ use Rattle.std.specs.Prelude.{reverse}
 use Rattle.bilv_spec.specs.Run.{Place}
 use Rattle.frame_spec.specs.Frames.{Frame}
 use Rattle.frame_spec.specs.FrameRuns.{Start, run}
-use Rattle.table_run.specs.Programs.{program_of}
+use Rattle.program_value.specs.Programs.{program_of}
 use Rattle.state_text.specs.Starts.{frame_event_of}
 use Rattle.table_run.specs.FrameEnds.{frame_of, start_by}
 use Rattle.table_run.proofs.FrameFounds.{found_event, found_exit, found_turn, found_left, found_arrival, reached, reached_left, one_step}
@@ -16,14 +16,14 @@ loop-stack-init g c = record {
   few = omega arith;
   within = omega arith;
   run = λ head given begun.
-      first_going (frame_of (program_of g.M.Machine.machine c.args.p.now) c.args.invariants.now) c.args.limits.turns (g.M.State.View.view c.args.entry.now)
+      first_going (frame_of (program_of c.args.p.now) c.args.invariants.now) c.args.limits.turns (g.M.State.View.view c.args.entry.now)
       c.args.choices.now head given (record { state = g.M.State.View.view c.args.state; stack = reverse c.args.stack.items }) begun;
 }
 
 pub returns-in-Halts : goal.returns-in-Halts
 returns-in-Halts g c head given begun =
     let within = c.loop-stack.invariant.within in
-    found_event (frame_of (program_of g.M.Machine.machine c.args.p.now) c.args.invariants.now) c.args.limits.turns
+    found_event (frame_of (program_of c.args.p.now) c.args.invariants.now) c.args.limits.turns
     (start_by (g.M.State.View.view c.args.entry.now) c.args.choices.now head given)
     c.loop-stack.turns c.loop-stack.n (c.args.limits.steps - 1) c.choice_at-choice.result c.pc-at.result
     (record { state = g.M.State.View.view c.loop-stack.state; stack = reverse c.loop-stack.stack.items }) c.choice_at-choice.ensures c.pc-at.ensures
@@ -34,7 +34,7 @@ returns-in-Halts g c head given begun =
 pub returns-in-Leaves : goal.returns-in-Leaves
 returns-in-Leaves g c head given begun =
     let within = c.loop-stack.invariant.within in
-    found_exit (frame_of (program_of g.M.Machine.machine c.args.p.now) c.args.invariants.now) c.args.limits.turns
+    found_exit (frame_of (program_of c.args.p.now) c.args.invariants.now) c.args.limits.turns
     (start_by (g.M.State.View.view c.args.entry.now) c.args.choices.now head given)
     c.loop-stack.turns c.loop-stack.n (c.args.limits.steps - 1) c.choice_at-choice.result c.pc-at.result
     (record { state = g.M.State.View.view c.loop-stack.state; stack = reverse c.loop-stack.stack.items }) c.choice_at-choice.ensures c.pc-at.ensures
@@ -45,7 +45,7 @@ returns-in-Leaves g c head given begun =
 pub returns-then-n-limits : goal.returns-then-n-limits
 returns-then-n-limits g c head given begun =
     let last : c.loop-stack.n ≡ c.args.limits.steps - 1 = omega arith in
-    reached_left (frame_of (program_of g.M.Machine.machine c.args.p.now) c.args.invariants.now) c.args.limits.turns
+    reached_left (frame_of (program_of c.args.p.now) c.args.invariants.now) c.args.limits.turns
     (start_by (g.M.State.View.view c.args.entry.now) c.args.choices.now head given)
     c.loop-stack.turns c.loop-stack.n (c.args.limits.steps - 1) c.choice_at-choice.result c.pc-at.result
     (record { state = g.M.State.View.view c.loop-stack.state; stack = reverse c.loop-stack.stack.items }) c.choice_at-choice.ensures c.pc-at.ensures
@@ -58,7 +58,7 @@ pub returns-in-Reaches : goal.returns-in-Reaches
 returns-in-Reaches g c head given begun =
     let within = c.loop-stack.invariant.within in
     let other = c.if-n-limits.false in
-    let f : Frame = frame_of (program_of g.M.Machine.machine c.args.p.now) c.args.invariants.now in
+    let f : Frame = frame_of (program_of c.args.p.now) c.args.invariants.now in
     let start : Start = start_by (g.M.State.View.view c.args.entry.now) c.args.choices.now head given in
     let there : Place = record { state = g.M.State.View.view c.frame_step.new.state; stack = reverse c.frame_step.new.stack.items } in
     c.arrival.ensures (run f c.args.limits.turns start (c.args.limits.steps - 1))
@@ -73,7 +73,7 @@ pub returns-in-None : goal.returns-in-None
 returns-in-None g c head given begun =
     let within = c.loop-stack.invariant.within in
     let d : Place = record { state = g.M.State.View.view c.frame_step.new.state; stack = reverse c.frame_step.new.stack.items } in
-    found_turn (frame_of (program_of g.M.Machine.machine c.args.p.now) c.args.invariants.now) c.args.limits.turns
+    found_turn (frame_of (program_of c.args.p.now) c.args.invariants.now) c.args.limits.turns
     (start_by (g.M.State.View.view c.args.entry.now) c.args.choices.now head given)
     c.loop-stack.turns c.loop-stack.n (c.args.limits.steps - 1) c.choice_at-choice.result c.pc-at.result
     (record { state = g.M.State.View.view c.loop-stack.state; stack = reverse c.loop-stack.stack.items }) c.choice_at-choice.ensures c.pc-at.ensures
@@ -85,7 +85,7 @@ pub returns-then-n-limits-2 : goal.returns-then-n-limits-2
 returns-then-n-limits-2 g c head given begun =
     let last : c.loop-stack.n ≡ c.args.limits.steps - 1 = omega arith in
     let d : Place = record { state = g.M.State.View.view c.frame_step.new.state; stack = reverse c.frame_step.new.stack.items } in
-    found_left (frame_of (program_of g.M.Machine.machine c.args.p.now) c.args.invariants.now) c.args.limits.turns
+    found_left (frame_of (program_of c.args.p.now) c.args.invariants.now) c.args.limits.turns
     (start_by (g.M.State.View.view c.args.entry.now) c.args.choices.now head given)
     c.loop-stack.turns c.loop-stack.n (c.args.limits.steps - 1) c.choice_at-choice.result c.pc-at.result
     (record { state = g.M.State.View.view c.loop-stack.state; stack = reverse c.loop-stack.stack.items }) c.choice_at-choice.ensures c.pc-at.ensures
@@ -104,7 +104,7 @@ loop-stack-preserved g c =
       few = omega arith;
       within = omega arith;
       run = λ head given begun.
-          one_step (frame_of (program_of g.M.Machine.machine c.args.p.now) c.args.invariants.now) c.args.limits.turns
+          one_step (frame_of (program_of c.args.p.now) c.args.invariants.now) c.args.limits.turns
           (start_by (g.M.State.View.view c.args.entry.now) c.args.choices.now head given)
           c.loop-stack.turns c.loop-stack.n (c.args.limits.steps - 1) c.choice_at-choice.result c.pc-at.result
           (record { state = g.M.State.View.view c.loop-stack.state; stack = reverse c.loop-stack.stack.items }) c.choice_at-choice.ensures c.pc-at.ensures

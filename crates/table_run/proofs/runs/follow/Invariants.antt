@@ -3,7 +3,7 @@ use Rattle.std.specs.Prelude.{Option, reverse}
 use Rattle.bilv_spec.specs.Run.{Place}
 use Rattle.frame_spec.specs.Frames.{Content}
 use Rattle.frame_spec.specs.FrameRuns.{run, Going}
-use Rattle.table_run.specs.Programs.{program_of}
+use Rattle.program_value.specs.Programs.{program_of}
 use Rattle.table_run.specs.FrameEnds.{Begins, frame_of, start_by}
 use Rattle.table_run.proofs.runs.follow.Given as goal
 
@@ -12,9 +12,9 @@ invariant-loop-stack g l = record {
   few : l.turns ≤ l.n;
   within : l.n < l.limits.steps;
   run : (head : Option Place) (given : ℕ → Content) →
-      Begins (frame_of (program_of g.M.Machine.machine l.p) l.invariants) (g.M.State.View.view l.entry) head
+      Begins (frame_of (program_of l.p) l.invariants) (g.M.State.View.view l.entry) head
       (record { state = g.M.State.View.view l.fn.state; stack = reverse l.fn.stack.items }) →
-      run (frame_of (program_of g.M.Machine.machine l.p) l.invariants) l.limits.turns (start_by (g.M.State.View.view l.entry) l.choices head given) l.n
+      run (frame_of (program_of l.p) l.invariants) l.limits.turns (start_by (g.M.State.View.view l.entry) l.choices head given) l.n
       ≡ Going l.turns l.n (record { state = g.M.State.View.view l.state; stack = reverse l.stack.items });
 }
 

@@ -5,7 +5,7 @@ use Rattle.frame_spec.specs.Frames.{Frame}
 use Rattle.frame_spec.specs.FrameFound.{found_within}
 use Rattle.frame_spec.specs.FrameReports.{head_place}
 use Rattle.notes_value.specs.NoteViews.{notes_of}
-use Rattle.table_run.specs.Programs.{program_of}
+use Rattle.program_value.specs.Programs.{program_of}
 use Rattle.state_text.specs.Starts.{written_head_of}
 use Rattle.table_run.specs.FrameEnds.{frame_found_of, frame_of, start_by}
 use Rattle.table_run.proofs.FrameStarts.{head_begins}
@@ -13,7 +13,7 @@ use Rattle.table_run.proofs.runs.follow_head.Goals as goal
 
 pub returns : goal.returns
 returns g c given =
-    let p : Program = program_of g.M.Machine.machine c.args.p.now in
+    let p : Program = program_of c.args.p.now in
     let f : Frame = frame_of p c.args.invariants.now in
     let stack_is : c.extend_from_slice.new.self.items ≡ c.args.head.now.stack.items =
     c.in_ok-extend_from_slice.ensures.items ∙ ap (λ (l : List ℕ). l ++ c.deref.result.now) c.new-stack.ensures.items ∙ c.deref.ensures.value in
@@ -22,4 +22,4 @@ returns g c given =
     (start_by (g.M.State.View.view c.args.entry.now) choices (Some there) given) (c.args.limits.steps - 1)) c.deref-2.ensures.value
     (c.in_ok-ending.ensures (Some there) given
     (head_begins f (g.M.State.View.view c.args.entry.now) there (g.M.State.View.view c.in_ok-state.state) c.extend_from_slice.new.self.items
-    (c.in_ok-state.ensures.state (notes_of c.args.p.now.notes.now) c.args.p.now.function) (ap (λ (xs : List ℕ). reverse xs) stack_is)))
+    (c.in_ok-state.ensures.state (notes_of c.args.p.now.notes.now) c.args.p.now.entry) (ap (λ (xs : List ℕ). reverse xs) stack_is)))

@@ -1,10 +1,9 @@
 use Rattle.std.proofs.Common.{◌≡◌, ◌-◌, ap}
 use Rattle.std.specs.Prelude.{None, Some, Option, option_map}
-use Rattle.bilv_spec.specs.Files.{program_of}
+use Rattle.program_value.specs.Programs.{program_of}
 use Rattle.bilv_spec.specs.Run.{Program}
 use Rattle.frame_spec.specs.FrameReports.{WrittenHead, head_place}
 use Rattle.start_value.specs.Starts.{written_of}
-use Rattle.notes_value.specs.NoteViews.{notes_of}
 use Rattle.state_text.specs.Starts.{written_head_of}
 use Rattle.table_run.specs.FrameEnds.{frame_found_of, frame_of, start_by, start_shown}
 use Rattle.table_run.proofs.FrameStarts.{found_same, gifts_shown, shown_entry, shown_head}
@@ -12,7 +11,7 @@ use Rattle.table_run.proofs.runs.run_frame.Goals as goal
 
 pub returns-in-None : goal.returns-in-None
 returns-in-None g c =
-    let p : Program = program_of g.M.Machine.machine c.args.image.now (notes_of c.args.notes.now) c.args.entry in
+    let p : Program = program_of c.args.program.now in
     let w = written_of c.args.start.now in
     let form = g.M.Machine.form in
     let head : Option WrittenHead = option_map (λ h. written_head_of h.now) c.args.head in
@@ -25,7 +24,7 @@ returns-in-None g c =
 
 pub returns : goal.returns
 returns g c =
-    let p : Program = program_of g.M.Machine.machine c.args.image.now (notes_of c.args.notes.now) c.args.entry in
+    let p : Program = program_of c.args.program.now in
     let w = written_of c.args.start.now in
     let form = g.M.Machine.form in
     let h : WrittenHead = written_head_of c.in-Some.head.now in

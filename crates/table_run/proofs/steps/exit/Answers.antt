@@ -6,4 +6,4 @@ use Rattle.table_run.proofs.steps.exit.Goals as goal
 pub false_line-requires : goal.false_line-requires
 false_line-requires g c =
     unmapped (λ l. IsReadable g.M.State.View.has_register l.says) note_line_of c.args.p.now.notes.now.ensured.items c.deref.result.now c.deref.ensures.value
-    c.requires.readable.ensures
+    c.args.p.now.readable.ensures

@@ -8,7 +8,7 @@ use Rattle.table_run.proofs.steps.walk.Goals as goal
 pub false_assert-requires-clause-readable : goal.false_assert-requires-clause-readable
 false_assert-requires-clause-readable g c =
     unmapped (λ l. IsReadable g.M.State.View.has_register l.says) assert_of c.args.p.now.notes.now.asserts.items c.deref.result.now c.deref.ensures.value
-    c.requires.readable.asserts
+    c.args.p.now.readable.asserts
 
 pub row_step-requires-clause-lawful : goal.row_step-requires-clause-lawful
 row_step-requires-clause-lawful g c =

@@ -3,7 +3,7 @@ use Rattle.std.specs.Prelude.{reverse}
 use Rattle.word_spec.specs.Memory.{byte_in}
 use Rattle.bilv_spec.specs.Questions.{point_of}
 use Rattle.model_spec.specs.Models.{all_reads}
-use Rattle.table_run.specs.Programs.{program_of}
+use Rattle.program_value.specs.Programs.{program_of}
 use Rattle.table_run.proofs.TracedRuns.{running_first, drawn_there, run_stops, run_exits, run_turns, run_left, run_goes}
 use Rattle.table_run.proofs.tracing.follow_model.Goals as goal
 
@@ -12,13 +12,13 @@ loop-stack-init g c = record {
   few = omega arith;
   within = omega arith;
   run = λ r over takes at noted.
-      running_first (program_of g.M.Machine.machine c.args.p.now) c.args.limits.turns r c.args.t.now.met (g.M.State.View.view c.args.t.now.entry)
+      running_first (program_of c.args.p.now) c.args.limits.turns r c.args.t.now.met (g.M.State.View.view c.args.t.now.entry)
       (g.M.State.View.view c.args.t.now.state) c.new-stack.result.items c.args.t.now.read at noted c.new-stack.ensures.items;
 }
 
 pub returns-in-Stops : goal.returns-in-Stops
 returns-in-Stops g c r over takes at noted =
-    let p = program_of g.M.Machine.machine c.args.p.now in
+    let p = program_of c.args.p.now in
     let turns = c.loop-stack.turns in
     let n = c.loop-stack.n in
     let is = c.loop-stack.invariant.run r over takes at noted in
@@ -34,7 +34,7 @@ returns-in-Stops g c r over takes at noted =
 
 pub returns-in-Exits : goal.returns-in-Exits
 returns-in-Exits g c r over takes at noted =
-    let p = program_of g.M.Machine.machine c.args.p.now in
+    let p = program_of c.args.p.now in
     let turns = c.loop-stack.turns in
     let n = c.loop-stack.n in
     let is = c.loop-stack.invariant.run r over takes at noted in
@@ -50,7 +50,7 @@ returns-in-Exits g c r over takes at noted =
 
 pub returns-in-None : goal.returns-in-None
 returns-in-None g c r over takes at noted =
-    let p = program_of g.M.Machine.machine c.args.p.now in
+    let p = program_of c.args.p.now in
     let turns = c.loop-stack.turns in
     let n = c.loop-stack.n in
     let is = c.loop-stack.invariant.run r over takes at noted in
@@ -66,7 +66,7 @@ returns-in-None g c r over takes at noted =
 
 pub returns-then-n-limits : goal.returns-then-n-limits
 returns-then-n-limits g c r over takes at noted =
-    let p = program_of g.M.Machine.machine c.args.p.now in
+    let p = program_of c.args.p.now in
     let turns = c.loop-stack.turns in
     let n = c.loop-stack.n in
     let is = c.loop-stack.invariant.run r over takes at noted in
@@ -90,7 +90,7 @@ loop-stack-preserved g c =
       few = omega arith;
       within = omega arith;
       run = λ r over takes at noted.
-          let p = program_of g.M.Machine.machine c.args.p.now in
+          let p = program_of c.args.p.now in
           let turns = c.loop-stack.turns in
           let n = c.loop-stack.n in
           let is = c.loop-stack.invariant.run r over takes at noted in

@@ -3,7 +3,7 @@ use Rattle.std.specs.Prelude.{reverse}
 use Rattle.word_spec.specs.Memory.{byte_in}
 use Rattle.bilv_spec.specs.Questions.{Reading}
 use Rattle.model_spec.specs.Models.{all_reads}
-use Rattle.table_run.specs.Programs.{program_of}
+use Rattle.program_value.specs.Programs.{program_of}
 use Rattle.table_run.specs.Traces.{IsOver, TakesChoices, IsRunAt, IsReadSet}
 use Rattle.table_run.proofs.TracedRuns.{IsRunning}
 use Rattle.table_run.proofs.tracing.follow_model.Given as goal
@@ -13,12 +13,12 @@ invariant-loop-stack g l = record {
   few : l.turns ≤ l.n;
   within : l.n < l.limits.steps;
   run :
-      (r : Reading) → IsOver (program_of g.M.Machine.machine l.p) l.model.fill l.model.bytes.now r.state.mem →
-      TakesChoices (program_of g.M.Machine.machine l.p) l.limits.turns r (byte_in l.choices) →
-      IsRunAt (program_of g.M.Machine.machine l.p) r.state l.fn.t.met (g.M.State.View.view l.fn.t.entry) (g.M.State.View.view l.fn.t.state) []
+      (r : Reading) → IsOver (program_of l.p) l.model.fill l.model.bytes.now r.state.mem →
+      TakesChoices (program_of l.p) l.limits.turns r (byte_in l.choices) →
+      IsRunAt (program_of l.p) r.state l.fn.t.met (g.M.State.View.view l.fn.t.entry) (g.M.State.View.view l.fn.t.state) []
       (record { state = r.state; stack = [] }) →
-      IsReadSet (program_of g.M.Machine.machine l.p) (all_reads (program_of g.M.Machine.machine l.p) l.limits.turns r 0) l.fn.t.read →
-      IsRunning (program_of g.M.Machine.machine l.p) l.limits.turns r l.t.met (g.M.State.View.view l.t.entry) (g.M.State.View.view l.t.state)
+      IsReadSet (program_of l.p) (all_reads (program_of l.p) l.limits.turns r 0) l.fn.t.read →
+      IsRunning (program_of l.p) l.limits.turns r l.t.met (g.M.State.View.view l.t.entry) (g.M.State.View.view l.t.state)
       (reverse l.stack.items) l.t.read l.turns l.n;
 }
 

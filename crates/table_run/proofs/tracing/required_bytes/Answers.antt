@@ -1,14 +1,13 @@
 use Rattle.std.proofs.Common.{[]}
-use Rattle.bilv_spec.specs.Files.{program_of}
+use Rattle.program_value.specs.Programs.{program_of}
 use Rattle.model_spec.specs.Models.{all_reads}
-use Rattle.notes_value.specs.NoteViews.{notes_of}
 use Rattle.table_run.proofs.Listings.{listed_all}
 use Rattle.table_run.proofs.TracedRuns.{entry_read}
 use Rattle.table_run.proofs.tracing.required_bytes.Goals as goal
 
 pub returns-clause-bytes : goal.returns-clause-bytes
 returns-clause-bytes g c k r is =
-    let p = program_of g.M.Machine.machine c.args.image.now (notes_of c.args.notes.now) c.args.entry in
+    let p = program_of c.args.program.now in
     let first = c.in_ok-t.t in
     let new = c.read_stage.new.t in
     let it =

@@ -1,8 +1,7 @@
 use Rattle.std.proofs.Common.{◌+◌, [], sym, subst}
 use Rattle.word_spec.specs.Memory.{byte_in}
-use Rattle.bilv_spec.specs.Files.{program_of}
+use Rattle.program_value.specs.Programs.{program_of}
 use Rattle.model_spec.specs.Models.{all_reads}
-use Rattle.notes_value.specs.NoteViews.{notes_of}
 use Rattle.table_run.specs.Traces.{TakesChoices, last_of}
 use Rattle.table_run.proofs.Listings.{listed_all}
 use Rattle.table_run.proofs.TracedRuns.{entry_read}
@@ -10,7 +9,7 @@ use Rattle.table_run.proofs.tracing.trace.Goals as goal
 
 pub returns-clause-ending : goal.returns-clause-ending
 returns-clause-ending g c r is takes =
-    let p = program_of g.M.Machine.machine c.args.image.now (notes_of c.args.notes.now) c.args.entry in
+    let p = program_of c.args.program.now in
     let first = c.in_ok-t.t in
     let new = c.read_stage.new.t in
     let drawn = subst (λ z. TakesChoices p c.args.k r (byte_in z)) (sym c.deref.ensures.value) takes in
@@ -22,7 +21,7 @@ returns-clause-ending g c r is takes =
 
 pub returns-clause-bytes : goal.returns-clause-bytes
 returns-clause-bytes g c r is takes =
-    let p = program_of g.M.Machine.machine c.args.image.now (notes_of c.args.notes.now) c.args.entry in
+    let p = program_of c.args.program.now in
     let first = c.in_ok-t.t in
     let new = c.read_stage.new.t in
     let drawn = subst (λ z. TakesChoices p c.args.k r (byte_in z)) (sym c.deref.ensures.value) takes in

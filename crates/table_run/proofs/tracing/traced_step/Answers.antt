@@ -4,7 +4,7 @@ use Rattle.word_spec.specs.State.{State}
 use Rattle.bilv_spec.specs.Run.{Program}
 use Rattle.bilv_spec.specs.PointLaws.{ReadsMemory}
 use Rattle.state_text.specs.Starts.{event_of}
-use Rattle.table_run.specs.Programs.{program_of}
+use Rattle.program_value.specs.Programs.{program_of}
 use Rattle.table_run.specs.Traces.{IsReadSet, early_reads}
 use Rattle.table_run.proofs.Stepped.{end_is}
 use Rattle.table_run.proofs.WholeSteps.{step_stops, step_goes, step_exits}
@@ -12,7 +12,7 @@ use Rattle.table_run.proofs.tracing.traced_step.Goals as goal
 
 pub returns-in-Stops : goal.returns-in-Stops
 returns-in-Stops g c begun place drawn before over at draws noted =
-    let p : Program = program_of g.M.Machine.machine c.args.p.now in
+    let p : Program = program_of c.args.p.now in
     let some = c.read_stage.new.t in
     let more = c.meet_stored.new.t in
     let entry1 : State = g.M.State.View.view some.entry in
@@ -29,7 +29,7 @@ returns-in-Stops g c begun place drawn before over at draws noted =
 
 pub returns-in-Arrives : goal.returns-in-Arrives
 returns-in-Arrives g c begun place drawn before over at draws noted =
-    let p : Program = program_of g.M.Machine.machine c.args.p.now in
+    let p : Program = program_of c.args.p.now in
     let some = c.read_stage.new.t in
     let more = c.meet_stored.new.t in
     let entry1 : State = g.M.State.View.view some.entry in
@@ -46,7 +46,7 @@ returns-in-Arrives g c begun place drawn before over at draws noted =
 
 pub returns-in_ok-read_stage-in-Exits : goal.returns-in_ok-read_stage-in-Exits
 returns-in_ok-read_stage-in-Exits g c begun place drawn before over at draws noted =
-    let p : Program = program_of g.M.Machine.machine c.args.p.now in
+    let p : Program = program_of c.args.p.now in
     let some = c.read_stage.new.t in
     let more = c.meet_stored.new.t in
     let last = c.read_stage-in-Exits.new.t in

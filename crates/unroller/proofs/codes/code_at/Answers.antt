@@ -10,14 +10,14 @@ some_same r s e = cc
 
 pub returns-in-None-decode-clause-row : goal.returns-in-None-decode-clause-row
 returns-in-None-decode-clause-row g c = λ notes entry out always is kept.
-    let p : Program = program_asking g.M.Machine.machine c.args.image.now notes entry out in
+    let p : Program = program_asking g.M.Machine.machine c.args.program.now.image.now notes entry out in
     let q = word_row p c.args.node.now c.in-Some.word is c.in-Some.is in
     let never : None ≡ Some q.0 = c.in-None-decode.ensures ∙ q.2 in
     absurd (cc)
 
 pub returns-clause-row : goal.returns-clause-row
 returns-clause-row g c = λ notes entry out always is kept.
-    let p : Program = program_asking g.M.Machine.machine c.args.image.now notes entry out in
+    let p : Program = program_asking g.M.Machine.machine c.args.program.now.image.now notes entry out in
     let n = c.args.node.now in
     let r = g.M.Machine.row c.in-Some-decode.insn in
     let w = c.in-Some.word in

@@ -18,12 +18,12 @@ unreachable-requires g c =
 
 pub loop-at-init : goal.loop-at-init
 loop-at-init g c = λ n e o always is live.
-    codes_none (program_asking g.M.Machine.machine c.args.image.now n e o) g.M.Machine.bank always c.args.addresses.now c.args.asserts.now c.in_ok-codes.codes.items
+    codes_none (program_asking g.M.Machine.machine c.args.program.now.image.now n e o) g.M.Machine.bank always c.args.addresses.now c.args.asserts.now c.in_ok-codes.codes.items
     c.in_ok-codes.ensures.items
 
 pub loop-at-preserved : goal.loop-at-preserved
 loop-at-preserved g c = λ n e o always is live.
-    let p : Program = program_asking g.M.Machine.machine c.args.image.now n e o in
+    let p : Program = program_asking g.M.Machine.machine c.args.program.now.image.now n e o in
     codes_more p g.M.Machine.bank always c.args.addresses.now c.args.asserts.now c.loop-at.at-index c.loop-at.codes.items c.push.new.self.items c.in_ok-code.code
     (c.loop-at.invariant n e o always is live)
     c.in_ok-push.ensures.items (record {
@@ -42,6 +42,6 @@ loop-at-preserved g c = λ n e o always is live.
 
 pub returns : goal.returns
 returns g c = λ n e o always is live.
-    let p : Program = program_asking g.M.Machine.machine c.args.image.now n e o in
+    let p : Program = program_asking g.M.Machine.machine c.args.program.now.image.now n e o in
     let whole : c.loop-at.at-index ≡ length c.args.addresses.now = omega arith in
     subst (λ (z : ℕ). AreCodes p g.M.Machine.bank always c.args.addresses.now c.args.asserts.now z c.loop-at.codes.items) whole (c.loop-at.invariant n e o always is live)

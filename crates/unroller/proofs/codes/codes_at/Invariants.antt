@@ -8,6 +8,6 @@ use Rattle.unroller.specs.Places.{AreCodes}
 use Rattle.unroller.proofs.codes.codes_at.Given as goal
 
 abbrev pub invariant-loop-at : goal.invariant-loop-at
-invariant-loop-at g l = (n : Notes) (e : ℕ) (o : ℕ → Bool) (always : ℕ) → IsGraph (program_asking g.M.Machine.machine l.image n e o) l.graph →
-    LiveStayWith (program_asking g.M.Machine.machine l.image n e o) always l.graph →
-    AreCodes (program_asking g.M.Machine.machine l.image n e o) g.M.Machine.bank always l.addresses l.asserts l.at-index l.codes.items
+invariant-loop-at g l = (n : Notes) (e : ℕ) (o : ℕ → Bool) (always : ℕ) → IsGraph (program_asking g.M.Machine.machine l.program.image.now n e o) l.graph →
+    LiveStayWith (program_asking g.M.Machine.machine l.program.image.now n e o) always l.graph →
+    AreCodes (program_asking g.M.Machine.machine l.program.image.now n e o) g.M.Machine.bank always l.addresses l.asserts l.at-index l.codes.items

@@ -13,7 +13,7 @@ use Rattle.unroller.proofs.codes.listed.Goals as goal
 
 pub returns-in-None-clause-list : goal.returns-in-None-clause-list
 returns-in-None-clause-list g c = λ n e o always kept.
-    let p : Program = program_asking g.M.Machine.machine c.args.image.now n e o in
+    let p : Program = program_asking g.M.Machine.machine c.args.program.now.image.now n e o in
     let row = g.M.Machine.row c.args.insn.now in
     let lifted = statements c.in_ok-lifted.lifted.items in
     let lifting : IsLifting p.machine g.M.Machine.bank row c.args.node.now.at lifted = c.in_ok-lifted.ensures in
@@ -22,7 +22,7 @@ returns-in-None-clause-list g c = λ n e o always kept.
 
 pub returns-in_ok-list-in-Some-clause-list : goal.returns-in_ok-list-in-Some-clause-list
 returns-in_ok-list-in-Some-clause-list g c = λ n e o always kept.
-    let p : Program = program_asking g.M.Machine.machine c.args.image.now n e o in
+    let p : Program = program_asking g.M.Machine.machine c.args.program.now.image.now n e o in
     let row = g.M.Machine.row c.args.insn.now in
     let lifted = statements c.in_ok-lifted.lifted.items in
     let literal = c.word_at.result in
@@ -33,15 +33,15 @@ returns-in_ok-list-in-Some-clause-list g c = λ n e o always kept.
     (statements c.in_ok-trimmed.trimmed.items) made lifting kept c.in_ok-trimmed.ensures (c.in-Some.ensures n e o)
     (subst (λ (l : List Stmt). made ≡ with_literal (endian_of literal.order) literal.at literal.value (statements l)) c.deref.ensures.value
     c.in_ok-list-in-Some.ensures)
-    (c.word_at.ensures.order ∙ c.requires) c.word_at.ensures.at (c.word_at.ensures.value g.M.Machine.machine n e c.requires) small
+    (c.word_at.ensures.order ∙ c.args.program.now.order) c.word_at.ensures.at (c.word_at.ensures.value g.M.Machine.machine n e c.args.program.now.order) small
 
 pub returns-in-None-clause-loads : goal.returns-in-None-clause-loads
 returns-in-None-clause-loads g c = λ n e o.
     ap (λ (k : Cost). k.loads) c.cost.ensures
-    ∙ sym (loads_full (program_asking g.M.Machine.machine c.args.image.now n e o) ((g.M.Machine.row c.args.insn.now).literal c.args.node.now.at)
+    ∙ sym (loads_full (program_asking g.M.Machine.machine c.args.program.now.image.now n e o) ((g.M.Machine.row c.args.insn.now).literal c.args.node.now.at)
     (g.M.Machine.row c.args.insn.now).cost.loads (sym (c.in-None.ensures n e o)))
 
 pub returns-in_ok-list-in-Some-clause-loads : goal.returns-in_ok-list-in-Some-clause-loads
 returns-in_ok-list-in-Some-clause-loads g c = λ n e o.
-    sym (loads_none (program_asking g.M.Machine.machine c.args.image.now n e o) ((g.M.Machine.row c.args.insn.now).literal c.args.node.now.at) c.in-Some.place
+    sym (loads_none (program_asking g.M.Machine.machine c.args.program.now.image.now n e o) ((g.M.Machine.row c.args.insn.now).literal c.args.node.now.at) c.in-Some.place
     (g.M.Machine.row c.args.insn.now).cost.loads (sym (c.in-Some.ensures n e o)))

@@ -6,20 +6,20 @@ use Rattle.frame_spec.specs.Theorems.{headless}
 use Rattle.frame_laws.proofs.HeadlessUnrolled.{headless_unrolling}
 use Rattle.bilv_spec.proofs.PointsInGraph.{none_in}
 use Rattle.notes_value.specs.declared.notes.Contract.{Contract}
-use Rattle.notes_value.specs.NoteViews.{notes_of}
 use Rattle.std.specs.Prelude.{Contains}
 use Rattle.program_points.specs.Listed.{HasTooMany}
 use Rattle.program_points.proofs.Plain.{plain_fault}
 use Rattle.question_form.proofs.FrameValues.{headless_values}
 use Rattle.question_form.specs.FrameViews.{frame_unrolled_of}
 use Rattle.question_form.specs.Views.{unrolled_of}
-use Rattle.unroller.specs.Asking.{frame_of, program_asking}
+use Rattle.program_value.specs.Programs.{program_of}
+use Rattle.unroller.specs.Asking.{asking, frame_of}
 use Rattle.unroller.proofs.Fronts.{as_plain, plain_many}
 use Rattle.unroller.proofs.unrolling.unroll_asking.Goals as goal
 
 pub returns-clause-unrolled : goal.returns-clause-unrolled
 returns-clause-unrolled g c asked is =
-    let p : Program = program_asking g.M.Machine.machine c.args.image.now (notes_of c.args.notes.now) c.args.entry asked in
+    let p : Program = asking (program_of c.args.program.now) asked in
     let u = c.in_ok-unrolled.unrolled in
     ((headless_unrolling p c.args.k).0 (unrolled_of u)).1
     (subst (λ (z : UnrolledProgram). IsUnrolling (headless p) [] c.args.k z)
@@ -39,7 +39,7 @@ returns-clause-headless g c = c.in_ok-unrolled.ensures.headless c.no_invariants.
 
 pub returns-in_err-unrolled-clause-more : goal.returns-in_err-unrolled-clause-more
 returns-in_err-unrolled-clause-more g c asked is =
-    let p : Program = program_asking g.M.Machine.machine c.args.image.now (notes_of c.args.notes.now) c.args.entry asked in
+    let p : Program = asking (program_of c.args.program.now) asked in
     let more = plain_fault p c.args.k c.args.max c.in_err-unrolled.field-0.0
     (subst (λ (l : List ℕ). HasTooMany (frame_of p l) c.args.k c.args.max c.in_err-unrolled.field-0.0) c.no_invariants.ensures
     (plain_many p c.no_invariants.result.now c.no_contracts.result.now c.no_contracts-2.result.now c.no_contracts.ensures c.no_contracts-2.ensures c.args.k

@@ -1,9 +1,8 @@
 use Rattle.std.proofs.Common.{rules}
 use Rattle.std.specs.Prelude.{IfErr, false}
-use Rattle.bilv_spec.specs.Files.{program_of}
+use Rattle.program_value.specs.Programs.{program_of}
 use Rattle.bilv_spec.specs.Run.{Program}
 use Rattle.flag_live.proofs.FlagSets.{no_flags}
-use Rattle.notes_value.specs.NoteViews.{notes_of}
 use Rattle.program_points.specs.Listed.{HasTooMany}
 use Rattle.program_points.specs.declared.values.PointsFault.{PointsFault}
 use Rattle.unroller.specs.Frames.{parts_frame}
@@ -29,5 +28,5 @@ handed_on g c P more = search rules
 
 pub returns-in_err-unrolled-clause-more : goal.returns-in_err-unrolled-clause-more
 returns-in_err-unrolled-clause-more g c =
-    let p : Program = program_of g.M.Machine.machine c.args.image.now (notes_of c.args.parts.now.notes.now) c.args.parts.now.entry in
+    let p : Program = program_of c.args.parts.now.program in
     handed_on g c (HasTooMany (parts_frame p c.args.parts.now) c.args.k c.args.max) (c.in_err-unrolled.ensures.more (λ f. false) no_flags)

@@ -1,9 +1,8 @@
 use Rattle.std.proofs.Common.{List, subst, rules}
-use Rattle.bilv_spec.specs.Files.{program_of}
+use Rattle.program_value.specs.Programs.{program_of}
 use Rattle.bilv_spec.specs.Run.{Program}
 use Rattle.bilv_spec.proofs.PointsInGraph.{none_in}
 use Rattle.notes_value.specs.declared.notes.Contract.{Contract}
-use Rattle.notes_value.specs.NoteViews.{notes_of}
 use Rattle.question_form.specs.FrameViews.{frame_unrolled_of}
 use Rattle.std.specs.Prelude.{Contains}
 use Rattle.unroller.proofs.Fronts.{as_plain, plain_many}
@@ -14,7 +13,7 @@ unroll_contracted-requires-clause-few g c x h = none_in x (subst (λ (l : List C
 
 pub returns-clause-unrolled : goal.returns-clause-unrolled
 returns-clause-unrolled g c =
-    let p : Program = program_of g.M.Machine.machine c.args.image.now (notes_of c.args.notes.now) c.args.entry in
+    let p : Program = program_of c.args.program.now in
     as_plain p c.args.invariants.now c.no_contracts.result.now c.no_contracts-2.result.now c.no_contracts.ensures c.no_contracts-2.ensures c.args.k
     (frame_unrolled_of c.in_ok-unrolled.unrolled) c.in_ok-unrolled.ensures.unrolled
 
@@ -26,7 +25,7 @@ returns-clause-lean g c = c.in_ok-unrolled.ensures.lean c.no_contracts.ensures c
 
 pub returns-in_err-unrolled-clause-more : goal.returns-in_err-unrolled-clause-more
 returns-in_err-unrolled-clause-more g c =
-    let p : Program = program_of g.M.Machine.machine c.args.image.now (notes_of c.args.notes.now) c.args.entry in
+    let p : Program = program_of c.args.program.now in
     let more = plain_many p c.args.invariants.now c.no_contracts.result.now c.no_contracts-2.result.now c.no_contracts.ensures c.no_contracts-2.ensures c.args.k
     c.args.max c.in_err-unrolled.field-0.0 c.in_err-unrolled.ensures.more in
     search rules

@@ -45,7 +45,7 @@ pub calls-requires-clause-nodes : goal.calls-requires-clause-nodes
 calls-requires-clause-nodes g c =
     let asked : ℕ → Bool = λ f. has_flag c.args.out f in
     let parts = c.args.parts.now in
-    let p : Program = program_asking g.M.Machine.machine c.args.image.now (notes_of parts.notes.now) parts.entry asked in
+    let p : Program = program_asking g.M.Machine.machine c.args.parts.now.program.image.now (notes_of parts.program.notes.now) parts.program.entry asked in
     let f : Frame = parts_frame p parts in
     let graph = c.in_ok-live.ensures.graph p (own_flags c.args.out c.requires.out) c.requires.graph in
     graph.rising
@@ -54,7 +54,7 @@ pub all_codes-requires-clause-nodes : goal.all_codes-requires-clause-nodes
 all_codes-requires-clause-nodes g c =
     let asked : ℕ → Bool = λ f. has_flag c.args.out f in
     let parts = c.args.parts.now in
-    let p : Program = program_asking g.M.Machine.machine c.args.image.now (notes_of parts.notes.now) parts.entry asked in
+    let p : Program = program_asking g.M.Machine.machine c.args.parts.now.program.image.now (notes_of parts.program.notes.now) parts.program.entry asked in
     let f : Frame = parts_frame p parts in
     let graph = c.in_ok-live.ensures.graph p (own_flags c.args.out c.requires.out) c.requires.graph in
     graph.rising
@@ -63,7 +63,7 @@ pub literals_at-requires-clause-nodes : goal.literals_at-requires-clause-nodes
 literals_at-requires-clause-nodes g c =
     let asked : ℕ → Bool = λ f. has_flag c.args.out f in
     let parts = c.args.parts.now in
-    let p : Program = program_asking g.M.Machine.machine c.args.image.now (notes_of parts.notes.now) parts.entry asked in
+    let p : Program = program_asking g.M.Machine.machine c.args.parts.now.program.image.now (notes_of parts.program.notes.now) parts.program.entry asked in
     let f : Frame = parts_frame p parts in
     let graph = c.in_ok-live.ensures.graph p (own_flags c.args.out c.requires.out) c.requires.graph in
     graph.rising
@@ -72,7 +72,7 @@ pub points_of-requires-clause-nodes : goal.points_of-requires-clause-nodes
 points_of-requires-clause-nodes g c =
     let asked : ℕ → Bool = λ f. has_flag c.args.out f in
     let parts = c.args.parts.now in
-    let p : Program = program_asking g.M.Machine.machine c.args.image.now (notes_of parts.notes.now) parts.entry asked in
+    let p : Program = program_asking g.M.Machine.machine c.args.parts.now.program.image.now (notes_of parts.program.notes.now) parts.program.entry asked in
     let f : Frame = parts_frame p parts in
     let graph = c.in_ok-live.ensures.graph p (own_flags c.args.out c.requires.out) c.requires.graph in
     graph.rising
@@ -81,10 +81,10 @@ pub calls-requires-clause-among : goal.calls-requires-clause-among
 calls-requires-clause-among g c =
     let asked : ℕ → Bool = λ f. has_flag c.args.out f in
     let parts = c.args.parts.now in
-    let p : Program = program_asking g.M.Machine.machine c.args.image.now (notes_of parts.notes.now) parts.entry asked in
+    let p : Program = program_asking g.M.Machine.machine c.args.parts.now.program.image.now (notes_of parts.program.notes.now) parts.program.entry asked in
     let f : Frame = parts_frame p parts in
     let graph = c.in_ok-live.ensures.graph p (own_flags c.args.out c.requires.out) c.requires.graph in
-    let of = frame_is g.M.Machine.machine c.args.image.now (notes_of parts.notes.now) parts.entry asked parts c.in_ok-live.live
+    let of = frame_is g.M.Machine.machine c.args.parts.now.program.image.now (notes_of parts.program.notes.now) parts.program.entry asked parts c.in_ok-live.live
     c.in_ok-places.places.heads.items c.deref.result.now c.deref-2.result.now graph g.met.M.Machine.lawful c.bytes.ensures c.in_ok-places.ensures.heads
     c.deref.ensures.value (c.deref-2.ensures.value ∙ c.in_ok-places.ensures.stepped) in
     let v = c.in_ok-listed.listed in
@@ -95,10 +95,10 @@ pub calls-requires-clause-fits : goal.calls-requires-clause-fits
 calls-requires-clause-fits g c =
     let asked : ℕ → Bool = λ f. has_flag c.args.out f in
     let parts = c.args.parts.now in
-    let p : Program = program_asking g.M.Machine.machine c.args.image.now (notes_of parts.notes.now) parts.entry asked in
+    let p : Program = program_asking g.M.Machine.machine c.args.parts.now.program.image.now (notes_of parts.program.notes.now) parts.program.entry asked in
     let f : Frame = parts_frame p parts in
     let graph = c.in_ok-live.ensures.graph p (own_flags c.args.out c.requires.out) c.requires.graph in
-    let of = frame_is g.M.Machine.machine c.args.image.now (notes_of parts.notes.now) parts.entry asked parts c.in_ok-live.live
+    let of = frame_is g.M.Machine.machine c.args.parts.now.program.image.now (notes_of parts.program.notes.now) parts.program.entry asked parts c.in_ok-live.live
     c.in_ok-places.places.heads.items c.deref.result.now c.deref-2.result.now graph g.met.M.Machine.lawful c.bytes.ensures c.in_ok-places.ensures.heads
     c.deref.ensures.value (c.deref-2.ensures.value ∙ c.in_ok-places.ensures.stepped) in
     let v = c.in_ok-listed.listed in
@@ -109,10 +109,10 @@ pub all_codes-requires-clause-rows : goal.all_codes-requires-clause-rows
 all_codes-requires-clause-rows g c =
     let asked : ℕ → Bool = λ f. has_flag c.args.out f in
     let parts = c.args.parts.now in
-    let p : Program = program_asking g.M.Machine.machine c.args.image.now (notes_of parts.notes.now) parts.entry asked in
+    let p : Program = program_asking g.M.Machine.machine c.args.parts.now.program.image.now (notes_of parts.program.notes.now) parts.program.entry asked in
     let f : Frame = parts_frame p parts in
     let graph = c.in_ok-live.ensures.graph p (own_flags c.args.out c.requires.out) c.requires.graph in
-    let of = frame_is g.M.Machine.machine c.args.image.now (notes_of parts.notes.now) parts.entry asked parts c.in_ok-live.live
+    let of = frame_is g.M.Machine.machine c.args.parts.now.program.image.now (notes_of parts.program.notes.now) parts.program.entry asked parts c.in_ok-live.live
     c.in_ok-places.places.heads.items c.deref.result.now c.deref-2.result.now graph g.met.M.Machine.lawful c.bytes.ensures c.in_ok-places.ensures.heads
     c.deref.ensures.value (c.deref-2.ensures.value ∙ c.in_ok-places.ensures.stepped) in
     let v = c.in_ok-listed.listed in
@@ -131,10 +131,10 @@ pub all_codes-requires-clause-steps : goal.all_codes-requires-clause-steps
 all_codes-requires-clause-steps g c =
     let asked : ℕ → Bool = λ f. has_flag c.args.out f in
     let parts = c.args.parts.now in
-    let p : Program = program_asking g.M.Machine.machine c.args.image.now (notes_of parts.notes.now) parts.entry asked in
+    let p : Program = program_asking g.M.Machine.machine c.args.parts.now.program.image.now (notes_of parts.program.notes.now) parts.program.entry asked in
     let f : Frame = parts_frame p parts in
     let graph = c.in_ok-live.ensures.graph p (own_flags c.args.out c.requires.out) c.requires.graph in
-    let of = frame_is g.M.Machine.machine c.args.image.now (notes_of parts.notes.now) parts.entry asked parts c.in_ok-live.live
+    let of = frame_is g.M.Machine.machine c.args.parts.now.program.image.now (notes_of parts.program.notes.now) parts.program.entry asked parts c.in_ok-live.live
     c.in_ok-places.places.heads.items c.deref.result.now c.deref-2.result.now graph g.met.M.Machine.lawful c.bytes.ensures c.in_ok-places.ensures.heads
     c.deref.ensures.value (c.deref-2.ensures.value ∙ c.in_ok-places.ensures.stepped) in
     let v = c.in_ok-listed.listed in
@@ -148,10 +148,10 @@ pub literals_at-requires-clause-among : goal.literals_at-requires-clause-among
 literals_at-requires-clause-among g c =
     let asked : ℕ → Bool = λ f. has_flag c.args.out f in
     let parts = c.args.parts.now in
-    let p : Program = program_asking g.M.Machine.machine c.args.image.now (notes_of parts.notes.now) parts.entry asked in
+    let p : Program = program_asking g.M.Machine.machine c.args.parts.now.program.image.now (notes_of parts.program.notes.now) parts.program.entry asked in
     let f : Frame = parts_frame p parts in
     let graph = c.in_ok-live.ensures.graph p (own_flags c.args.out c.requires.out) c.requires.graph in
-    let of = frame_is g.M.Machine.machine c.args.image.now (notes_of parts.notes.now) parts.entry asked parts c.in_ok-live.live
+    let of = frame_is g.M.Machine.machine c.args.parts.now.program.image.now (notes_of parts.program.notes.now) parts.program.entry asked parts c.in_ok-live.live
     c.in_ok-places.places.heads.items c.deref.result.now c.deref-2.result.now graph g.met.M.Machine.lawful c.bytes.ensures c.in_ok-places.ensures.heads
     c.deref.ensures.value (c.deref-2.ensures.value ∙ c.in_ok-places.ensures.stepped) in
     let v = c.in_ok-listed.listed in
@@ -171,10 +171,10 @@ pub roots_of-requires-clause-first : goal.roots_of-requires-clause-first
 roots_of-requires-clause-first g c =
     let asked : ℕ → Bool = λ f. has_flag c.args.out f in
     let parts = c.args.parts.now in
-    let p : Program = program_asking g.M.Machine.machine c.args.image.now (notes_of parts.notes.now) parts.entry asked in
+    let p : Program = program_asking g.M.Machine.machine c.args.parts.now.program.image.now (notes_of parts.program.notes.now) parts.program.entry asked in
     let f : Frame = parts_frame p parts in
     let graph = c.in_ok-live.ensures.graph p (own_flags c.args.out c.requires.out) c.requires.graph in
-    let of = frame_is g.M.Machine.machine c.args.image.now (notes_of parts.notes.now) parts.entry asked parts c.in_ok-live.live
+    let of = frame_is g.M.Machine.machine c.args.parts.now.program.image.now (notes_of parts.program.notes.now) parts.program.entry asked parts c.in_ok-live.live
     c.in_ok-places.places.heads.items c.deref.result.now c.deref-2.result.now graph g.met.M.Machine.lawful c.bytes.ensures c.in_ok-places.ensures.heads
     c.deref.ensures.value (c.deref-2.ensures.value ∙ c.in_ok-places.ensures.stepped) in
     let v = c.in_ok-listed.listed in
@@ -187,20 +187,20 @@ roots_of-requires-clause-first g c =
     let small : length frames < 2147483648 =
     (let a = ap length begins.1 in let b = length-append v.stacks.frames.items begins.0 in let l = begins.2 in let e = ap length c.deref-4.ensures.value in
     let n = c.in_ok-listed.ensures.few_stacks in let m = c.in_ok-listed.ensures.few in let x = c.requires.max in omega arith) in
-    subst (λ (l : List ℕ). (n : ℕ) → n < length l → Contains c.deref-11.result.now (first_key parts.entry n (head_of (slice_index l n)))) (sym
+    subst (λ (l : List ℕ). (n : ℕ) → n < length l → Contains c.deref-11.result.now (first_key parts.program.entry n (head_of (slice_index l n)))) (sym
     c.deref-10.ensures.value)
-    (subst (λ (l : List ℕ). (n : ℕ) → n < length v.segments.items → Contains l (first_key parts.entry n (head_of (slice_index v.segments.items n))))
+    (subst (λ (l : List ℕ). (n : ℕ) → n < length v.segments.items → Contains l (first_key parts.program.entry n (head_of (slice_index v.segments.items n))))
     (sym c.deref-11.ensures.value)
-    (first_in f c.args.k frames c.calls.new.stacks.numbers v.segments.items v.keys.items parts.entry c.in_ok-called.ensures.table small more_segs more refl))
+    (first_in f c.args.k frames c.calls.new.stacks.numbers v.segments.items v.keys.items parts.program.entry c.in_ok-called.ensures.table small more_segs more refl))
 
 pub points_of-requires-clause-root : goal.points_of-requires-clause-root
 points_of-requires-clause-root g c =
     let asked : ℕ → Bool = λ f. has_flag c.args.out f in
     let parts = c.args.parts.now in
-    let p : Program = program_asking g.M.Machine.machine c.args.image.now (notes_of parts.notes.now) parts.entry asked in
+    let p : Program = program_asking g.M.Machine.machine c.args.parts.now.program.image.now (notes_of parts.program.notes.now) parts.program.entry asked in
     let f : Frame = parts_frame p parts in
     let graph = c.in_ok-live.ensures.graph p (own_flags c.args.out c.requires.out) c.requires.graph in
-    let of = frame_is g.M.Machine.machine c.args.image.now (notes_of parts.notes.now) parts.entry asked parts c.in_ok-live.live
+    let of = frame_is g.M.Machine.machine c.args.parts.now.program.image.now (notes_of parts.program.notes.now) parts.program.entry asked parts c.in_ok-live.live
     c.in_ok-places.places.heads.items c.deref.result.now c.deref-2.result.now graph g.met.M.Machine.lawful c.bytes.ensures c.in_ok-places.ensures.heads
     c.deref.ensures.value (c.deref-2.ensures.value ∙ c.in_ok-places.ensures.stepped) in
     let v = c.in_ok-listed.listed in
@@ -212,10 +212,10 @@ pub points_of-requires-clause-low : goal.points_of-requires-clause-low
 points_of-requires-clause-low g c =
     let asked : ℕ → Bool = λ f. has_flag c.args.out f in
     let parts = c.args.parts.now in
-    let p : Program = program_asking g.M.Machine.machine c.args.image.now (notes_of parts.notes.now) parts.entry asked in
+    let p : Program = program_asking g.M.Machine.machine c.args.parts.now.program.image.now (notes_of parts.program.notes.now) parts.program.entry asked in
     let f : Frame = parts_frame p parts in
     let graph = c.in_ok-live.ensures.graph p (own_flags c.args.out c.requires.out) c.requires.graph in
-    let of = frame_is g.M.Machine.machine c.args.image.now (notes_of parts.notes.now) parts.entry asked parts c.in_ok-live.live
+    let of = frame_is g.M.Machine.machine c.args.parts.now.program.image.now (notes_of parts.program.notes.now) parts.program.entry asked parts c.in_ok-live.live
     c.in_ok-places.places.heads.items c.deref.result.now c.deref-2.result.now graph g.met.M.Machine.lawful c.bytes.ensures c.in_ok-places.ensures.heads
     c.deref.ensures.value (c.deref-2.ensures.value ∙ c.in_ok-places.ensures.stepped) in
     let v = c.in_ok-listed.listed in
@@ -226,10 +226,10 @@ pub points_of-requires-clause-among : goal.points_of-requires-clause-among
 points_of-requires-clause-among g c =
     let asked : ℕ → Bool = λ f. has_flag c.args.out f in
     let parts = c.args.parts.now in
-    let p : Program = program_asking g.M.Machine.machine c.args.image.now (notes_of parts.notes.now) parts.entry asked in
+    let p : Program = program_asking g.M.Machine.machine c.args.parts.now.program.image.now (notes_of parts.program.notes.now) parts.program.entry asked in
     let f : Frame = parts_frame p parts in
     let graph = c.in_ok-live.ensures.graph p (own_flags c.args.out c.requires.out) c.requires.graph in
-    let of = frame_is g.M.Machine.machine c.args.image.now (notes_of parts.notes.now) parts.entry asked parts c.in_ok-live.live
+    let of = frame_is g.M.Machine.machine c.args.parts.now.program.image.now (notes_of parts.program.notes.now) parts.program.entry asked parts c.in_ok-live.live
     c.in_ok-places.places.heads.items c.deref.result.now c.deref-2.result.now graph g.met.M.Machine.lawful c.bytes.ensures c.in_ok-places.ensures.heads
     c.deref.ensures.value (c.deref-2.ensures.value ∙ c.in_ok-places.ensures.stepped) in
     let v = c.in_ok-listed.listed in
@@ -253,16 +253,16 @@ handed_on g c P more = search rules
 pub returns-in_err-listed-clause-more : goal.returns-in_err-listed-clause-more
 returns-in_err-listed-clause-more g c asked is =
     let parts = c.args.parts.now in
-    let p : Program = program_asking g.M.Machine.machine c.args.image.now (notes_of parts.notes.now) parts.entry asked in
+    let p : Program = program_asking g.M.Machine.machine c.args.parts.now.program.image.now (notes_of parts.program.notes.now) parts.program.entry asked in
     let graph = c.in_ok-live.ensures.graph p is c.requires.graph in
-    let of = frame_is g.M.Machine.machine c.args.image.now (notes_of parts.notes.now) parts.entry asked parts c.in_ok-live.live
+    let of = frame_is g.M.Machine.machine c.args.parts.now.program.image.now (notes_of parts.program.notes.now) parts.program.entry asked parts c.in_ok-live.live
     c.in_ok-places.places.heads.items c.deref.result.now c.deref-2.result.now graph g.met.M.Machine.lawful c.bytes.ensures c.in_ok-places.ensures.heads
     c.deref.ensures.value (c.deref-2.ensures.value ∙ c.in_ok-places.ensures.stepped) in
     handed_on g c (HasTooMany (parts_frame p parts) c.args.k c.args.max) (c.in_err-listed.ensures.more (parts_frame p parts) of)
 
 -- what is made of a frame's points, and what is known of it
 module _ (g : given.Over) (c : goal.After-drop-live-2 g) where
-  abbrev parts : FrameParts
+  abbrev parts : FrameParts g.row.M.Denot g.row.M-Insn.Denot g.row.M-State.Denot g.M.Machine g.M.State.View
   parts = c.args.parts.now
 
   abbrev keys : List ℕ
@@ -298,11 +298,11 @@ module _ (g : given.Over) (c : goal.After-drop-live-2 g) where
   abbrev made : Unrolled
   made = record {
     form = c.layout.result;
-    big = c.is_big_machine.result;
+    big = parts.program.big;
     narrow = c.is_narrow.result;
     link = c.link.result;
-    entry = parts.entry;
-    notes = parts.notes;
+    entry = parts.program.entry;
+    notes = parts.program.notes;
     invariants = parts.invariants;
     heads = not c.is_empty.result;
     stepped = parts.stepped;
@@ -338,7 +338,7 @@ module _ (g : given.Over) (c : goal.After-drop-live-2 g) where
 
 module _ (g : given.Over) (c : goal.After-drop-live-2 g) (asked : ℕ → Bool) (is : IsFlagSet c.args.out asked) where
   abbrev program : Program
-  program = program_asking g.M.Machine.machine c.args.image.now (notes_of (parts g c).notes.now) (parts g c).entry asked
+  program = program_asking g.M.Machine.machine c.args.parts.now.program.image.now (notes_of (parts g c).program.notes.now) (parts g c).program.entry asked
 
   abbrev frame : Frame
   frame = parts_frame program (parts g c)
@@ -346,12 +346,12 @@ module _ (g : given.Over) (c : goal.After-drop-live-2 g) (asked : ℕ → Bool) 
   graph : IsGraph program c.in_ok-live.live
   graph = c.in_ok-live.ensures.graph program is c.requires.graph
 
-  of_lent : (lent steps : List ℕ) → lent ≡ heads g c → steps ≡ stepped g c → IsFrameOf frame c.in_ok-live.live lent steps (parts g c).entry
+  of_lent : (lent steps : List ℕ) → lent ≡ heads g c → steps ≡ stepped g c → IsFrameOf frame c.in_ok-live.live lent steps (parts g c).program.entry
   of_lent lent steps e d =
-      frame_is g.M.Machine.machine c.args.image.now (notes_of (parts g c).notes.now) (parts g c).entry asked (parts g c) c.in_ok-live.live (heads g c) lent steps
+      frame_is g.M.Machine.machine c.args.parts.now.program.image.now (notes_of (parts g c).program.notes.now) (parts g c).program.entry asked (parts g c) c.in_ok-live.live (heads g c) lent steps
       graph g.met.M.Machine.lawful c.bytes.ensures c.in_ok-places.ensures.heads e (d ∙ c.in_ok-places.ensures.stepped)
 
-  old_of : IsFrameOf frame c.in_ok-live.live c.deref.result.now c.deref-2.result.now (parts g c).entry
+  old_of : IsFrameOf frame c.in_ok-live.live c.deref.result.now c.deref-2.result.now (parts g c).program.entry
   old_of = of_lent c.deref.result.now c.deref-2.result.now c.deref.ensures.value c.deref-2.ensures.value
 
   old_segs : AreSegments frame c.args.k (old g c) (segments g c)
@@ -375,7 +375,7 @@ module _ (g : given.Over) (c : goal.After-drop-live-2 g) (asked : ℕ → Bool) 
       (made g c).asserts.items (made g c).codes.items) c.deref-6.ensures.value
       (subst (λ (l : List (ℕ × ℕ)). AreAllCodes program g.M.Machine.bank (always g c) (parts g c).stepped.now c.deref-8.result.now c.deref-5.result.now
       c.deref-6.result.now l (made g c).codes.items) c.deref-7.ensures.value
-      (c.in_ok-codes.ensures (notes_of (parts g c).notes.now) (parts g c).entry asked (always g c) graph
+      (c.in_ok-codes.ensures (notes_of (parts g c).program.notes.now) (parts g c).program.entry asked (always g c) graph
       (c.in_ok-live.ensures.live program is c.requires.graph)))))
 
   placed : ArePlaced c.in_ok-live.live (heads g c) (stepped g c) (made g c).asserts.items (frames g c) (keys g c) (rows g c) (steps g c)
@@ -387,12 +387,12 @@ module _ (g : given.Over) (c : goal.After-drop-live-2 g) (asked : ℕ → Bool) 
       c.deref-15.ensures.value c.deref-17.ensures.value c.deref-16.ensures.value c.deref-5.ensures.value c.deref-6.ensures.value c.deref-18.ensures.value
       c.in_ok-placed.ensures
 
-  roots : AreRoots (segments g c) (keys g c) (made g c).asserts.items (parts g c).entry (length (segments g c)) (made g c).roots.items
+  roots : AreRoots (segments g c) (keys g c) (made g c).asserts.items (parts g c).program.entry (length (segments g c)) (made g c).roots.items
   roots =
-      subst (λ (l : List ℕ). AreRoots l (keys g c) (made g c).asserts.items (parts g c).entry (length l) (made g c).roots.items) c.deref-10.ensures.value
-      (subst (λ (l : List ℕ). AreRoots c.deref-10.result.now l (made g c).asserts.items (parts g c).entry (length c.deref-10.result.now)
+      subst (λ (l : List ℕ). AreRoots l (keys g c) (made g c).asserts.items (parts g c).program.entry (length l) (made g c).roots.items) c.deref-10.ensures.value
+      (subst (λ (l : List ℕ). AreRoots c.deref-10.result.now l (made g c).asserts.items (parts g c).program.entry (length c.deref-10.result.now)
       (made g c).roots.items) c.deref-11.ensures.value
-      (subst (λ (l : List (ℕ × ℕ)). AreRoots c.deref-10.result.now c.deref-11.result.now l (parts g c).entry (length c.deref-10.result.now)
+      (subst (λ (l : List (ℕ × ℕ)). AreRoots c.deref-10.result.now c.deref-11.result.now l (parts g c).program.entry (length c.deref-10.result.now)
       (made g c).roots.items) c.deref-12.ensures.value c.in_ok-roots.ensures))
 
   abbrev Made : Type 0
@@ -433,15 +433,15 @@ module _ (g : given.Over) (c : goal.After-drop-live-2 g) (asked : ℕ → Bool) 
       (subst (λ (l : List ℕ). (x : ℕ) → Contains (map address_of (filter (is_of false) l)) x ↔ Contains (rows g c) x) c.deref-3.ensures.value
       c.in_ok-addresses.ensures.of_rows)
       (subst (λ (l : List ℕ). AreLiterals program l (length l) c.in_ok-literals.literals.items) c.deref-9.ensures.value
-      (c.in_ok-literals.ensures (notes_of (parts g c).notes.now) (parts g c).entry asked graph))
+      (c.in_ok-literals.ensures (notes_of (parts g c).program.notes.now) (parts g c).program.entry asked graph))
 
   unrolling : IsUnrolling frame (over g c) c.args.k (frame_unrolled_of (made g c))
   unrolling =
-      let runs = kept_runs_are_right c.args.image.now c.kept.result.now c.kept.ensures.runs (λ i w. (c.kept.ensures.words i w).1) in
+      let runs = kept_runs_are_right c.args.parts.now.program.image.now c.kept.result.now c.kept.ensures.runs (λ i w. (c.kept.ensures.words i w).1) in
       let count = size frame (over g c) c.args.k g.M.Machine.bank (always g c) c.in_ok-live.live (made g c) c.calls.new.stacks.numbers (heads g c) (stepped g c)
       (segments g c) (keys g c) (rows g c) (steps g c) c.in_ok-called.called.items is_made in
       record {
-        endian = c.is_big_machine.ensures ∙ c.requires.order;
+        endian = c.args.parts.now.program.big_is;
         narrow = c.is_narrow.ensures;
         registers = λ r. (form g c).registers r;
         registers_rise = (form g c).rise;
@@ -455,12 +455,12 @@ module _ (g : given.Over) (c : goal.After-drop-live-2 g) (asked : ℕ → Bool) 
         runs = runs.1;
         kept_runs =
             subst (λ (z : ℕ). IsCount (begins_run program) z) (sym (length-map c.kept.result.now kept_of))
-            (run_starts c.args.image.now c.kept.result.now c.kept.ensures.runs (λ i w. (c.kept.ensures.words i w).0) g.M.Machine.machine
-            (notes_of (parts g c).notes.now) (parts g c).entry);
-        known = λ a w. c.in_ok-known.ensures.bytes g.M.Machine.machine (parts g c).entry a w;
+            (run_starts c.args.parts.now.program.image.now c.kept.result.now c.kept.ensures.runs (λ i w. (c.kept.ensures.words i w).0) g.M.Machine.machine
+            (notes_of (parts g c).program.notes.now) (parts g c).program.entry);
+        known = λ a w. c.in_ok-known.ensures.bytes g.M.Machine.machine (parts g c).program.entry a w;
         known_bytes =
             subst (λ (z : ℕ). IsCount (is_known_at program) z) (sym c.in_ok-known.ensures.sum)
-            (c.in_ok-known.ensures.count g.M.Machine.machine (parts g c).entry);
+            (c.in_ok-known.ensures.count g.M.Machine.machine (parts g c).program.entry);
         literals = literals_is;
         points = are_points frame (over g c) c.args.k g.M.Machine.bank (always g c) c.in_ok-live.live (made g c) c.calls.new.stacks.numbers (heads g c) (stepped g c)
             (segments g c) (keys g c) (rows g c) (steps g c) c.in_ok-called.called.items is_made;
@@ -500,7 +500,7 @@ returns-clause-formed g c =
     let is = own_flags c.args.out c.requires.out in
     formed (frame g c asked is) (over g c) c.args.k g.M.Machine.bank (always g c) c.in_ok-live.live (made g c) c.calls.new.stacks.numbers (heads g c)
     (stepped g c) (segments g c) (keys g c) (rows g c) (steps g c) c.in_ok-called.called.items (is_made g c asked is)
-    (λ i d w. (let q = (c.in_ok-index.ensures.asserts.only i d w).0 in let l = length-map (parts g c).notes.now.asserts.items (λ a. a.at) in omega arith))
+    (λ i d w. (let q = (c.in_ok-index.ensures.asserts.only i d w).0 in let l = length-map (parts g c).program.notes.now.asserts.items (λ a. a.at) in omega arith))
 
 pub returns-clause-roots : goal.returns-clause-roots
 returns-clause-roots g c =
@@ -560,7 +560,7 @@ pub returns-clause-headless : goal.returns-clause-headless
 returns-clause-headless g c e step own =
     let asked : ℕ → Bool = λ f. has_flag c.args.out f in
     let is = own_flags c.args.out c.requires.out in
-    let none = no_heads (parts g c).invariants.now (notes_of (parts g c).notes.now).asserts (heads g c) e c.in_ok-places.ensures.heads in
+    let none = no_heads (parts g c).invariants.now (notes_of (parts g c).program.notes.now).asserts (heads g c) e c.in_ok-places.ensures.heads in
     record {
       invariants = e;
       heads = heads_are g c ∙ heads_none (frame g c asked is) (heads g c) refl c.in_ok-places.ensures.heads none;

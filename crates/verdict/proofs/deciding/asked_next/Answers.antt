@@ -14,4 +14,4 @@ asked_next-requires-clause-broken c =
 
 pub returns : goal.returns
 returns c =
-    subst (λ (z : List Known). AreMore (map run_of z) c.args.added.now c.in_ok-more.more.items) c.deref.ensures.value c.in_ok-more.ensures
+    subst (λ (z : List Known). AreMore (map run_of z) c.args.added.now c.in_ok-more.more.items) c.deref.ensures.value c.in_ok-more.ensures.more
