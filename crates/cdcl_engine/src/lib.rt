@@ -21,6 +21,9 @@
 //! A second search, `Guide`, proposes clauses and values to a search that is proved, and learns what that one tells it. It deletes and simplifies nothing.
 #![tactic(auto)]
 
+ghost use Rattle.std.specs.Prelude.{◌≤◌, IfOk};
+ghost use Rattle.cdcl_engine.specs.Findings.{IsFinding};
+
 mod arena;
 mod assignment;
 mod cells;
@@ -70,8 +73,10 @@ pub enum Finding {
     Values(Vec<bool>),
     /// The log of a refutation.
     Refutation(Log),
-    /// The conflicts did not suffice.
-    Nothing,
+    /// So many clauses were learned without an answer: at least as many as there are conflicts to spend.
+    Spent(u64),
+    /// There is no room left in numbers of 32 bits.
+    Full,
 }
 
 /// For each literal whether it is true; those of open variables are false.
@@ -110,10 +115,12 @@ fn are_few(cnf: &Cnf, names: &Names) -> bool {
 
 /// Searches until there are values or a refutation, or one more clause would be learned than there are conflicts to spend. It gives up as well where its
 /// clauses have no room in numbers of 32 bits.
-pub fn explore(alloc: Global, cnf: &Cnf, conflicts: u64) -> Result<Finding, AllocError> {
+pub fn explore(alloc: Global, cnf: &Cnf, conflicts: u64) -> Result<Finding, AllocError>
+    ensures { IfOk result (IsFinding conflicts) }
+{
     let names = Names::new(alloc, &cnf.clauses)?;
     if !are_few(cnf, &names) {
-        return Ok(Finding::Nothing);
+        return Ok(Finding::Full);
     }
     let mut search = Search {
         explorer: load(alloc, &cnf.clauses, &names)?,
@@ -122,9 +129,11 @@ pub fn explore(alloc: Global, cnf: &Cnf, conflicts: u64) -> Result<Finding, Allo
         completion: Completion::new(alloc),
         due: 0,
     };
-    for _ in 0..conflicts.saturating_add(1) {
+    let turns = conflicts.saturating_add(1);
+    let mut learned = 0;
+    while learned < turns {
         if search.is_full() {
-            return Ok(Finding::Nothing);
+            return Ok(Finding::Full);
         }
         match search.take_turn(alloc)? {
             Turn::Values => {
@@ -138,8 +147,8 @@ pub fn explore(alloc: Global, cnf: &Cnf, conflicts: u64) -> Result<Finding, Allo
                 let log = log_of(alloc, &search.record, &names)?;
                 return Ok(Finding::Refutation(log));
             }
-            Turn::Learned => (),
+            Turn::Learned => learned += 1,
         }
     }
-    Ok(Finding::Nothing)
+    Ok(Finding::Spent(learned))
 }

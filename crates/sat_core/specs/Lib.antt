@@ -4,6 +4,7 @@ pub mod Steps
 pub mod Kept
 pub mod Descents
 pub mod Answers
+pub mod Settled
 pub mod Links
 pub mod Trails
 pub mod Moves

@@ -10,7 +10,7 @@ use crate::decide::{Descent, descend};
 use crate::learn::learn;
 use crate::minimise::{Learned, minimise};
 use crate::propagator::Propagator;
-use crate::settle::{are_model, settle};
+use crate::settle::{Settled, are_model, settle};
 use crate::solver::{GREATEST_NUMBER, Solver};
 use crate::table::values;
 use cdcl_engine::{Guide, Proposal};
@@ -116,7 +116,7 @@ pub fn solve(alloc: Global, cnf: &Cnf, conflicts: u64) -> Result<Answer, AllocEr
     requires over { AreOnVariables cnf.now.variables cnf.now.clauses.items }
     ensures { IfOk result (IsAnswer (cnf_of cnf.now) conflicts) }
 {
-    if let Some(answer) = settle(alloc, cnf, conflicts)? {
+    if let Settled::Answer(answer) = settle(alloc, cnf, conflicts)? {
         return Ok(answer);
     }
     let mut solver = Solver::new(alloc, cnf, conflicts)?;

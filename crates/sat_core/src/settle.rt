@@ -1,9 +1,9 @@
 //! Answers by the fast search, where what it finds is right.
-ghost use Rattle.std.specs.Prelude.{◌≡◌, true, length, IfOk, IfSome};
+ghost use Rattle.std.specs.Prelude.{◌≡◌, true, length, IfOk};
 ghost use Rattle.std.specs.List.{list_all};
 ghost use Rattle.clause_spec.specs.Clauses.{AreOnVariables, Satisfies, literal_value, clause_value, valuation};
 ghost use Rattle.cnf_form.specs.Views.{cnf_of};
-ghost use Rattle.sat_core.specs.Answers.{IsAnswer};
+ghost use Rattle.sat_core.specs.Settled.{IsSettled};
 
 use crate::answer::Answer;
 use cdcl_engine::{Finding, explore};
@@ -59,23 +59,35 @@ pub fn are_model(values: &[bool], variables: u64, clauses: &[Clause]) -> bool
     are_satisfied(values, clauses)
 }
 
+/// What the fast search comes to.
+#[derive(Drop)]
+pub enum Settled {
+    /// Values or a refutation that are right.
+    Answer(Answer),
+    /// So many clauses were learned without an answer: at least as many as there are conflicts to spend.
+    Spent(u64),
+    /// What was found is not right, or there was no room for more clauses.
+    Open,
+}
+
 /// Values or a refutation, if the fast search finds them with so many conflicts.
-pub fn settle(alloc: Global, cnf: &Cnf, conflicts: u64) -> Result<Option<Answer>, AllocError>
+pub fn settle(alloc: Global, cnf: &Cnf, conflicts: u64) -> Result<Settled, AllocError>
     requires over { AreOnVariables cnf.now.variables cnf.now.clauses.items }
-    ensures { IfOk result (λ o. IfSome o (IsAnswer (cnf_of cnf.now) conflicts)) }
+    ensures { IfOk result (IsSettled (cnf_of cnf.now) conflicts) }
 {
     match explore(alloc, cnf, conflicts)? {
         Finding::Values(values) => {
             if are_model(&values, cnf.variables, &cnf.clauses) {
-                Ok(Some(Answer::Sat(values)))
+                Ok(Settled::Answer(Answer::Sat(values)))
             } else {
-                Ok(None)
+                Ok(Settled::Open)
             }
         }
         Finding::Refutation(log) => match check(alloc, cnf, &log)? {
-            Checked::Yes => Ok(Some(Answer::Unsat(log))),
-            Checked::No { line: _, cause: _ } => Ok(None),
+            Checked::Yes => Ok(Settled::Answer(Answer::Unsat(log))),
+            Checked::No { line: _, cause: _ } => Ok(Settled::Open),
         },
-        Finding::Nothing => Ok(None),
+        Finding::Spent(learned) => Ok(Settled::Spent(learned)),
+        Finding::Full => Ok(Settled::Open),
     }
 }
