@@ -1,39 +1,13 @@
 -- Known addresses beside broken ones.
-use Rattle.std.proofs.Common.{◌≡◌, refl, sym, subst, ◌∙◌, ℕ, zero, suc, ◌+◌, ◌-◌, ◌<◌, ◌≤◌, ◌^◌, inl, inr, Bool, true, false, List, [], ◌∷◌, ◌++◌, Some, get_or, map, arith}
-use Rattle.std.specs.Prelude.{Option, ◌&&◌, nat_le, nat_lt, find, if◌then◌else◌, length, Contains}
-use Rattle.std.proofs.lemmas.Bool.Decides.{nat_tests}
+use Rattle.std.proofs.Common.{◌≡◌, sym, subst, ℕ, ◌+◌, ◌<◌, ◌≤◌, ◌^◌, inl, inr, List, [], ◌∷◌, ◌++◌, Some, map, arith}
+use Rattle.std.specs.Prelude.{length, Contains}
 use Rattle.std.proofs.lemmas.List.Elements.{Contains-push_cases, at_from_Contains}
-use Rattle.walk_spec.specs.Unrolled.{ByteRun, byte_in_run, byte_of_runs}
+use Rattle.walk_spec.specs.Unrolled.{ByteRun, byte_of_runs}
 use Rattle.known_bytes.specs.declared.listing.Known.{Known}
 use Rattle.known_bytes.specs.Runs.{run_of}
 use Rattle.asked_bytes.specs.AskedBytes.{AreAdded, AreBeside, AreFurther, AreMore, IsMerged}
 use Rattle.asked_bytes.proofs.Adding.{added_merged}
 use Rattle.asked_bytes.proofs.Merging.{snoc_rises}
-
-head_by : (t : Bool) (r : ByteRun) (rest : Option ByteRun) (a : ℕ) → (t ≡ false → (b : ℕ) × (byte_in_run a rest ≡ Some b)) →
-    (b : ℕ) × (byte_in_run a (if t then Some r else rest) ≡ Some b)
-head_by true r rest a h = (_, refl)
-head_by false r rest a h = h refl
-
-abbrev pub none : Known
-none = record { first = 0; last = 0; bytes = record { ref_ptr = (0, 0); now = [] } }
-
--- an address within one of the runs is known
-pub within_run : (runs : List Known) (i a : ℕ) (d : Known) → i < length runs → (get_or runs i d).first ≤ a → a ≤ (get_or runs i d).last →
-    (b : ℕ) × (byte_of_runs (map run_of runs) a ≡ Some b)
-within_run [] i a d lt low high = absurd (omega arith)
-within_run (r ∷ rs) zero a d lt low high =
-    head_by (nat_le r.first a && nat_lt a (r.first + (r.last - r.first + 1))) (run_of r)
-    (find (λ (q : ByteRun). nat_le q.at a && nat_lt a (q.at + q.count)) (map run_of rs)) a (λ not. absurd (differ (sym is ∙ not)))
-  where
-    is : (nat_le r.first a && nat_lt a (r.first + (r.last - r.first + 1))) ≡ true
-    is = grind (arith, nat_tests)
-
-    differ : true ≡ false → ⊥
-    differ e = cc
-within_run (r ∷ rs) (suc i) a d lt low high =
-    head_by (nat_le r.first a && nat_lt a (r.first + (r.last - r.first + 1))) (run_of r)
-    (find (λ (q : ByteRun). nat_le q.at a && nat_lt a (q.at + q.count)) (map run_of rs)) a (λ not. within_run rs i a d (omega arith) low high)
 
 pub beside_none : (known : List Known) (added found : List ℕ) → found ≡ [] → AreBeside known added 0 found
 beside_none known added found e = subst (λ (z : List ℕ). AreBeside known added 0 z) (sym e) (record {

@@ -42,6 +42,7 @@ module _ (xs ys : List ℕ) (rise_x : AreRising xs) (rise_y : AreRising ys) (apa
     rise = λ i j lt end. absurd (omega arith);
     only = λ a c. absurd (none a c);
     kept = λ n l. absurd (omega arith);
+    kept_second = λ n l. absurd (omega arith);
     count = refl;
     below = λ a c. absurd (none a c);
     under =
@@ -68,6 +69,7 @@ module _ (xs ys : List ℕ) (rise_x : AreRising xs) (rise_y : AreRising ys) (apa
       | inl old ↦ Contains-append_left joined (slice_index xs i ∷ []) (slice_index xs n) (h.kept n old)
       | inr e ↦ subst (λ (z : ℕ). Contains (joined ++ slice_index xs i ∷ []) (slice_index xs z)) (sym e) (Contains-push joined (slice_index xs i))
     ];
+    kept_second = λ n l. Contains-append_left joined (slice_index xs i ∷ []) (slice_index ys n) (h.kept_second n l);
     count = length-append joined (slice_index xs i ∷ []) ∙ (let e = h.count in omega arith);
     below = λ a c more. elim (Contains-push_cases joined (slice_index xs i) a c) [
       | inl old ↦ let p = h.below a old within in let q = next_rises xs rise_x i more in omega (arith, p, q)
@@ -93,6 +95,10 @@ module _ (xs ys : List ℕ) (rise_x : AreRising xs) (rise_y : AreRising ys) (apa
           (λ (n : ℕ). Contains ys n) e (Contains-get_or ys j 0 within))
     ];
     kept = λ n l. Contains-append_left joined (slice_index ys j ∷ []) (slice_index xs n) (h.kept n l);
+    kept_second = λ n l. elim (split n j (omega (arith, l))) [
+      | inl old ↦ Contains-append_left joined (slice_index ys j ∷ []) (slice_index ys n) (h.kept_second n old)
+      | inr e ↦ subst (λ (z : ℕ). Contains (joined ++ slice_index ys j ∷ []) (slice_index ys z)) (sym e) (Contains-push joined (slice_index ys j))
+    ];
     count = length-append joined (slice_index ys j ∷ []) ∙ (let e = h.count in omega arith);
     below = λ a c more. elim (Contains-push_cases joined (slice_index ys j) a c) [
       | inl old ↦ h.below a old more
@@ -113,6 +119,8 @@ module _ (xs ys : List ℕ) (rise_x : AreRising xs) (rise_y : AreRising ys) (apa
     only = h.only;
     keep = λ a has. (let at = at_from_Contains xs a has in
         subst (λ (z : ℕ). Contains joined z) (at.2 0) (h.kept at.0 (omega (arith, at.1, p))));
+    keep_second = λ a has. (let at = at_from_Contains ys a has in
+        subst (λ (z : ℕ). Contains joined z) (at.2 0) (h.kept_second at.0 (omega (arith, at.1, q))));
     count = h.count ∙ (omega (arith, p, q));
   }
 

@@ -1,6 +1,6 @@
 //! The next addresses whose bytes are asked.
-ghost use Rattle.std.specs.Prelude.{map, IfOk};
-ghost use Rattle.known_bytes.specs.Runs.{run_of};
+ghost use Rattle.std.specs.Prelude.{ℕ, map, Contains, IfOk};
+ghost use Rattle.known_bytes.specs.Runs.{AreRuns, run_of};
 ghost use Rattle.asked_bytes.specs.AskedBytes.{AreAdded, AreFurther, AreMore};
 
 use crate::blocks::known_beside;
@@ -8,7 +8,8 @@ use crate::joining::with_further;
 use known_bytes::Known;
 use std::alloc::{AllocError, Global};
 
-/// The addresses whose bytes are asked next: those that were asked, and the known ones in the blocks of the broken ones. The error is want of memory.
+/// The addresses whose bytes are asked next: those that were asked, and the known ones in the blocks of the broken ones, these among them. The error is want of
+/// memory.
 pub fn asked_next(
     alloc: Global,
     known: &[Known],
@@ -17,7 +18,8 @@ pub fn asked_next(
 ) -> Result<Vec<u32>, AllocError>
     requires added { AreAdded (map run_of known.now) added.now }
     requires broken { AreFurther (map run_of known.now) added.now broken.now }
-    ensures { IfOk result (λ v. AreMore (map run_of known.now) added.now v.items) }
+    ensures more { IfOk result (λ v. AreMore (map run_of known.now) added.now v.items) }
+    ensures asked { IfOk result (λ v. AreRuns known.now → (a : ℕ) → Contains broken.now a → Contains v.items a) }
 {
     let beside = known_beside(alloc, known, added, broken)?;
     if beside.is_empty() {

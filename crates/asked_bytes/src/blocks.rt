@@ -2,8 +2,8 @@
 //! as are asked already, or just the broken ones.
 ghost use Rattle.std.specs.Prelude.{◌≡◌, ◌+◌, ◌≤◌, ◌^◌, ℕ, true, false, Some, Contains, IfOk, OnOk, map};
 ghost use Rattle.walk_spec.specs.Unrolled.{byte_of_runs};
-ghost use Rattle.known_bytes.specs.Runs.{run_of};
-ghost use Rattle.asked_bytes.specs.AskedBytes.{AreBeside, AreRising};
+ghost use Rattle.known_bytes.specs.Runs.{AreRuns, run_of};
+ghost use Rattle.asked_bytes.specs.AskedBytes.{AreBeside, AreBrokenFound, AreRising, HasByte, IsStretchFound};
 
 use known_bytes::Known;
 use std::alloc::{AllocError, Global};
@@ -22,7 +22,8 @@ fn place_bits(added: usize, broken: usize) -> u32 {
 
 /// Whether the byte at an address is known, by binary search among the runs, which rise.
 fn is_known(known: &[Known], address: u32) -> bool
-    ensures { result ≡ true → (b : ℕ) × (byte_of_runs (map run_of known.now) address ≡ Some b) }
+    ensures known { result ≡ true → (b : ℕ) × (byte_of_runs (map run_of known.now) address ≡ Some b) }
+    ensures unknown { AreRuns known.now → result ≡ false → ¬ HasByte known.now address }
 {
     let at = known.partition_point(|run| run.last < address);
     if at >= known.len() {
@@ -34,7 +35,8 @@ fn is_known(known: &[Known], address: u32) -> bool
 /// Whether an address is among rising ones, by binary search.
 fn is_among(added: &[u32], address: u32) -> bool
     requires { AreRising added.now }
-    ensures { result ≡ false → ¬ Contains added.now address }
+    ensures absent { result ≡ false → ¬ Contains added.now address }
+    ensures there { result ≡ true → Contains added.now address }
 {
     match added.binary_search(&address) {
         Ok(_) => true,
@@ -51,7 +53,9 @@ fn list_address(
 ) -> Result<(), AllocError>
     requires rise { AreRising added.now }
     requires before { AreBeside known.now added.now address found.old.items }
-    ensures { OnOk result (AreBeside known.now added.now (address + 1) found.new.items) }
+    ensures beside { OnOk result (AreBeside known.now added.now (address + 1) found.new.items) }
+    ensures kept { OnOk result ((a : ℕ) → Contains found.old.items a → Contains found.new.items a) }
+    ensures asked { AreRuns known.now → OnOk result (HasByte known.now address → ¬ Contains added.now address → Contains found.new.items address) }
 {
     if !is_known(known, address) || is_among(added, address) {
         return Ok(());
@@ -72,7 +76,10 @@ fn list_stretch(
     requires rise { AreRising added.now }
     requires before { AreBeside known.now added.now from found.old.items }
     requires within { end ≤ 2 ^ 32 }
-    ensures { IfOk result (λ next. AreBeside known.now added.now next found.new.items) }
+    ensures beside { IfOk result (λ next. AreBeside known.now added.now next found.new.items) }
+    ensures reached { IfOk result (λ next. end ≤ next) }
+    ensures kept { OnOk result ((a : ℕ) → Contains found.old.items a → Contains found.new.items a) }
+    ensures asked { AreRuns known.now → IfOk result (λ next. IsStretchFound known.now added.now from next found.new.items) }
 {
     let mut next = from;
     while next < end {
@@ -90,7 +97,8 @@ pub fn known_beside(
     broken: &[u32],
 ) -> Result<Vec<u32>, AllocError>
     requires { AreRising added.now }
-    ensures { IfOk result (λ v. (before : ℕ) × AreBeside known.now added.now before v.items) }
+    ensures beside { IfOk result (λ v. (before : ℕ) × AreBeside known.now added.now before v.items) }
+    ensures asked { AreRuns known.now → AreRising broken.now → IfOk result (λ v. AreBrokenFound known.now added.now broken.now v.items) }
 {
     let bits = place_bits(added.len(), broken.len());
     let mut found = Vec::new(alloc);

@@ -1,7 +1,8 @@
-use Rattle.std.proofs.Common.{◌+◌, arith}
-use Rattle.unroller.proofs.Ordered.{absent}
+use Rattle.asked_bytes.proofs.Found.{absent, there}
 use Rattle.asked_bytes.proofs.blocks.is_among.Goals as goal
 
-pub returns-in-Err : goal.returns-in-Err
-returns-in-Err c is =
-    absent c.args.added.now c.args.address c.in-Err.field-0 c.in-Err.ensures.position (λ j within. c.requires j (j + 1) (omega arith) within)
+pub returns-in-Ok-clause-there : goal.returns-in-Ok-clause-there
+returns-in-Ok-clause-there c is = there c.args.added.now c.args.address c.requires c.in-Ok.field-0 c.in-Ok.ensures.position
+
+pub returns-in-Err-clause-absent : goal.returns-in-Err-clause-absent
+returns-in-Err-clause-absent c is = absent c.args.added.now c.args.address c.requires c.in-Err.field-0 c.in-Err.ensures.position

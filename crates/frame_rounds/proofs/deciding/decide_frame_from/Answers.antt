@@ -16,9 +16,9 @@ loop-added-preserved c =
     more_asked c.args.passive.now c.args.first.items c.loop-added.added.items c.deref-in-Broken-2.result.now c.in_ok-added-in-Broken.added.items
     c.loop-added.invariant c.deref-in-Broken-2.ensures.value
     (subst (λ k. AreMore (map run_of k) c.deref-in-Broken-2.result.now c.in_ok-added-in-Broken.added.items) c.deref-in-Broken.ensures.value
-    c.in_ok-added-in-Broken.ensures)
+    c.in_ok-added-in-Broken.ensures.more)
 
 pub loop-added-smaller : goal.loop-added-smaller
 loop-added-smaller c =
     fewer_left (map run_of c.deref-in-Broken.result.now) c.loop-added.added.items c.deref-in-Broken-2.result.now c.in_ok-added-in-Broken.added.items
-    c.deref-in-Broken-2.ensures.value c.in_ok-added-in-Broken.ensures
+    c.deref-in-Broken-2.ensures.value c.in_ok-added-in-Broken.ensures.more
