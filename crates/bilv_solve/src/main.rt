@@ -9,5 +9,5 @@ use std::process::ExitCode;
 fn main(rt: HostRuntime) -> ExitCode {
     let mut shelf = FileShelf::new(&rt);
     let mut out = OutSink::new(io::writer(&rt));
-    answer_words(rt.alloc(), words(&rt), &mut shelf, &mut out)
+    answer_words(rt.alloc(), words(&rt), &mut shelf, &mut out).code()
 }

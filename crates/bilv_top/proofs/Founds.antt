@@ -9,6 +9,7 @@ use Rattle.notes_lang.specs.Framed.{IsContractOver}
 use Rattle.machine_spec.specs.Arm.{arm}
 use Rattle.bilv_spec.specs.Elf.{file_endian}
 use Rattle.call_spec.specs.Calls.{Options}
+use Rattle.bilv_spec.specs.Run.{Program}
 use Rattle.bilv_spec.specs.Files.{is_rv, order_of}
 use Rattle.machine_spec.specs.Machine.{Machine, IsAtPlace}
 use Rattle.word_spec.specs.Memory.{Endian, Little}
@@ -17,7 +18,7 @@ use Rattle.notes_value.specs.NoteViews.{notes_of}
 use Rattle.notes_value.specs.FrameViews.{contract_of}
 use Rattle.notes_value.specs.Reads.{AreOver, AreReadable, IsOver, IsReadableContract}
 use Rattle.notes_value.specs.declared.notes.Contract.{Contract}
-use Rattle.bilv_top.specs.Frames.{AreContractsOver, AreFitted, whole_by}
+use Rattle.bilv_top.specs.Frames.{AreContractsOn, AreContractsOver, AreFitted, whole_with}
 use Rattle.bilv_top.specs.declared.framed.Framed.{Framed}
 use Rattle.bilv_top.proofs.Segments.{no_contract}
 use Rattle.bilv_top.specs.declared.inputs.Found.{Found}
@@ -47,6 +48,9 @@ module _ (file : List ℕ) (cs : List Contract) (m : Machine) (of : IsMachineOf 
   pub contracts_over : All (λ x. IsContractOver m.has_register m.has_flag (contract_of x)) cs
   contracts_over = subst (λ (n : Machine). All (λ x. IsContractOver n.has_register n.has_flag (contract_of x)) cs) of.1 (by.over of.0)
 
+  pub contracts_on : AreContractsOn m cs
+  contracts_on = record { readable = contracts_readable; over = contracts_over }
+
 -- with invariants there are no contracts
 pub without_contracts : (w : Whole) → AreFitted w → w.invariants ≢ [] → w.contracts ≡ []
 without_contracts w fitted some = by w.contracts refl
@@ -64,8 +68,8 @@ without_invariants w fitted some = by w.contracts refl
     by (x ∷ rest) is = (fitted 0 x (ap (λ (l : List frames.Contract). slice_get l 0) is)).no_invariants
 
 -- with contracts there are no invariants, of what was found
-pub alone_with : (file : List ℕ) (m : Machine) (f : Framed) → AreFitted (whole_by m file f) → f.contracts.items ≢ [] → f.invariants.items ≡ []
-alone_with file m f fitted some = without_invariants (whole_by m file f) fitted (λ none. some (no_contract f.contracts.items none))
+pub alone_with : (p : Program) (f : Framed) → AreFitted (whole_with p f) → f.contracts.items ≢ [] → f.invariants.items ≡ []
+alone_with p f fitted some = without_invariants (whole_with p f) fitted (λ none. some (no_contract f.contracts.items none))
 
 callables : (m : Machine) (cs : List Contract) → All (λ x. IsContractOver m.has_register m.has_flag (contract_of x)) cs →
     ((rank : ℕ) (x : frames.Contract) → slice_get (map contract_of cs) rank ≡ Some x → IsAtPlace m.narrow x.at) → All (λ x. IsCallable m (contract_of x)) cs
@@ -87,14 +91,13 @@ callables m (c ∷ cs) over places =
     (callables m cs (All-tail (λ x. IsContractOver m.has_register m.has_flag (contract_of x)) c cs over) (λ rank x is. places (suc rank) x is))
 
 -- contracts that were found can be called
-pub callable_contracts : (file : List ℕ) (m : Machine) (f : Framed) → IsMachineOf file m → AreContractsOver file f.contracts.items →
-    AreFitted (whole_by m file f) → All (λ x. IsCallable m (contract_of x)) f.contracts.items
-callable_contracts file m f of by fitted =
-    callables m f.contracts.items (contracts_over file f.contracts.items m of by) (λ rank x is. (fitted rank x is).place)
+pub callable_contracts : (p : Program) (f : Framed) → AreContractsOn p.machine f.contracts.items → AreFitted (whole_with p f) →
+    All (λ x. IsCallable p.machine (contract_of x)) f.contracts.items
+callable_contracts p f on fitted = callables p.machine f.contracts.items on.over (λ rank x is. (fitted rank x is).place)
 
 -- what holds of the whole that slices are holds of what was found
-pub whole_same : (P : Whole → Type 0) (m : Machine) (file : List ℕ) (f : Framed) (ns : List ℕ) (cs : List Contract) → ns ≡ f.invariants.items →
-    cs ≡ f.contracts.items → P (record { program = (whole_by m file f).program; invariants = ns; contracts = map contract_of cs }) → P (whole_by m file f)
-whole_same P m file f ns cs same also is =
-    subst (λ (l : List Contract). P (record { program = (whole_by m file f).program; invariants = f.invariants.items; contracts = map contract_of l })) also
-    (subst (λ (l : List ℕ). P (record { program = (whole_by m file f).program; invariants = l; contracts = map contract_of cs })) same is)
+pub whole_same : (P : Whole → Type 0) (p : Program) (f : Framed) (ns : List ℕ) (cs : List Contract) → ns ≡ f.invariants.items →
+    cs ≡ f.contracts.items → P (record { program = p; invariants = ns; contracts = map contract_of cs }) → P (whole_with p f)
+whole_same P p f ns cs same also is =
+    subst (λ (l : List Contract). P (record { program = p; invariants = f.invariants.items; contracts = map contract_of l })) also
+    (subst (λ (l : List ℕ). P (record { program = p; invariants = l; contracts = map contract_of cs })) same is)

@@ -6,6 +6,7 @@ use Rattle.answer_spec.specs.FrameAnswerLaws.{IsFittedContract}
 use Rattle.answer_spec.specs.FrameAnswers.{asked_rank, dialect_for, IsFrameReported, IsReplayedWhole, IsVerifiedWhole, IsCertifiedWhole, IsScriptWhole}
 use Rattle.answer_spec.specs.Outcomes.{IsGraphedWhole}
 use Rattle.bilv_spec.specs.Files.{machine_of, IsFunctionAt}
+use Rattle.bilv_spec.specs.Run.{Program}
 use Rattle.call_spec.specs.Calls.{Answer, Options, Surroundings, AfterRead}
 use Rattle.frame_spec.specs.Frames as frames
 use Rattle.frame_spec.specs.FrameCertified.{IsFrameCertified}
@@ -36,6 +37,15 @@ framed_of f = record { notes = notes_of f.found.notes; invariants = f.invariants
 -- the whole that they are over a file of a machine
 abbrev pub whole_by : Machine → (file : List ℕ) → Framed → Whole
 whole_by m file f = whole_of m file (framed_of f) f.found.entry
+
+-- and over a program
+abbrev pub whole_with : Program → Framed → Whole
+whole_with p f = record { program = p; invariants = f.invariants.items; contracts = map contract_of f.contracts.items }
+
+-- a machine has the registers and flags that contracts name
+pub record AreContractsOn (m : Machine) (contracts : List Contract) : Type 0 where
+  pub readable : All (λ x. IsReadableContract m.has_register (contract_of x)) contracts
+  pub over : All (λ x. IsContractOver m.has_register m.has_flag (contract_of x)) contracts
 
 -- the file's machine has the registers and flags that contracts name, whatever its options
 pub record AreContractsOver (file : List ℕ) (contracts : List Contract) : Type 0 where

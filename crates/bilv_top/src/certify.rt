@@ -4,12 +4,10 @@ ghost use Rattle.std.specs.List.Sorted.{IsStrictlyIncreasing};
 ghost use Rattle.call_spec.specs.Calls.{plain_answer};
 ghost use Rattle.clause_spec.specs.Certificates.{certificate_text};
 ghost use Rattle.bilv_spec.specs.Certified.{IsCertified};
-ghost use Rattle.bilv_spec.specs.Files.{program_of};
-ghost use Rattle.bilv_spec.specs.Run.{Program};
+ghost use Rattle.bilv_spec.specs.Run as tables;
+ghost use Rattle.program_value.specs.Programs.{program_of};
 ghost use Rattle.bilv_top.specs.Answers.{answer_of};
-ghost use Rattle.bilv_top.specs.Chosen.{IsMachineOf};
-ghost use Rattle.bilv_top.specs.Due.{IsOverFile};
-ghost use Rattle.bilv_top.specs.Frames.{AreContractsOver, AreFitted, whole_by};
+ghost use Rattle.bilv_top.specs.Frames.{AreContractsOn, AreFitted, whole_with};
 ghost use Rattle.cnf_form.specs.Views.{cnf_of, lines_of};
 ghost use Rattle.call_form.specs.Views.{frame_question, kind_of};
 ghost use Rattle.command_line.specs.Commands.{budget_of};
@@ -17,20 +15,18 @@ ghost use Rattle.frame_spec.specs.FrameCertified.{IsFrameCertified};
 ghost use Rattle.frame_spec.specs.FrameVerdict.{Whole};
 ghost use Rattle.frame_verdict.specs.FrameCertificates.{IsFrameCertificate};
 ghost use Rattle.machine_spec.specs.Machine.{IsAtPlace};
-ghost use Rattle.notes_value.specs.NoteViews.{notes_of};
 ghost use Rattle.verdict.specs.Verdicts.{IsCertificate};
 
 use crate::answer::{Answer, Evidence};
 use crate::framed::Framed;
-use crate::inputs::Found;
 use crate::reading::answer;
 use crate::reports::{beyond, exceeded};
 use cnf_form::{Proof, print_cnf};
 use command_line::{Asked, Budget, Kind};
-use elf32_reader::Image;
 use exit_status::{DONE, FAILS};
 use frame_verdict::certify_frame;
 use machine_law::Machine;
+use program_value::Program;
 use refutation_checker::print_lrat;
 use std::alloc::{AllocError, Global};
 use verdict::{Certified, certify as certificate_of};
@@ -63,7 +59,7 @@ fn say(
     question: Kind,
     certified: Certified,
 ) -> Result<Answer, AllocError>
-    ensures { IfOk result (λ a. (p : Program) → IsCertificate p (budget_of budget) (kind_of question) certified →
+    ensures { IfOk result (λ a. (p : tables.Program) → IsCertificate p (budget_of budget) (kind_of question) certified →
         IsCertified p (budget_of budget) (kind_of question) (answer_of a).status (answer_of a).text (answer_of a).evidence) }
 {
     match certified {
@@ -80,24 +76,14 @@ fn say(
 /// The answer to a question about a program of a machine. The error is want of memory.
 pub fn certify_by<M: Machine>(
     alloc: Global,
-    image: &Image,
-    found: &Found,
+    program: &Program<M>,
     budget: Budget,
     question: Kind,
 ) -> Result<Answer, AllocError>
-    requires machine { IsMachineOf image.now M.machine }
-    requires found { IsOverFile image.now found.now }
-    ensures { IfOk result (λ a. IsCertified (program_of M.machine image.now (notes_of found.now.notes) found.now.entry) (budget_of budget)
+    ensures { IfOk result (λ a. IsCertified (program_of program.now) (budget_of budget)
         (kind_of question) (answer_of a).status (answer_of a).text (answer_of a).evidence) }
 {
-    let certified = certificate_of::<M>(
-        alloc,
-        image,
-        &found.notes,
-        found.entry,
-        &budget,
-        question,
-    )?;
+    let certified = certificate_of::<M>(alloc, program, &budget, question)?;
     say(alloc, budget, question, certified)
 }
 
@@ -130,35 +116,24 @@ fn say_frame(
 /// The answer to a question about the frame of a rank of a function of a machine whose notes may have invariants or contracts. The error is want of memory.
 pub fn certify_frames_by<M: Machine>(
     alloc: Global,
-    image: &Image,
+    program: &Program<M>,
     framed: &Framed,
     budget: Budget,
     question: Asked,
     rank: usize,
 ) -> Result<Answer, AllocError>
-    requires machine { IsMachineOf image.now M.machine }
-    requires found { IsOverFile image.now framed.now.found }
-    requires place { IsAtPlace M.machine.narrow framed.now.found.entry }
+    requires place { IsAtPlace M.machine.narrow program.now.entry }
     requires rising { IsStrictlyIncreasing framed.now.invariants.items }
-    requires contracts { AreContractsOver image.now framed.now.contracts.items }
-    requires fitted { AreFitted (whole_by M.machine image.now framed.now) }
+    requires contracts { AreContractsOn M.machine framed.now.contracts.items }
+    requires fitted { AreFitted (whole_with (program_of program.now) framed.now) }
     requires rank { rank ≤ length framed.now.contracts.items }
-    ensures { IfOk result (λ a. IsFrameCertified (whole_by M.machine image.now framed.now) rank (budget_of budget) (frame_question question)
+    ensures { IfOk result (λ a. IsFrameCertified (whole_with (program_of program.now) framed.now) rank (budget_of budget) (frame_question question)
         (answer_of a).status (answer_of a).text (answer_of a).evidence) }
 {
-    let found = &framed.found;
     let invariants = framed.invariants.as_slice();
     let contracts = framed.contracts.as_slice();
     let certified = certify_frame::<M>(
-        alloc,
-        image,
-        &found.notes,
-        invariants,
-        contracts,
-        found.entry,
-        rank,
-        &budget,
-        question,
+        alloc, program, invariants, contracts, rank, &budget, question,
     )?;
     say_frame(alloc, budget, rank, question, certified)
 }

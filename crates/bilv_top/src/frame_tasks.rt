@@ -10,10 +10,10 @@ ghost use Rattle.command_line.specs.Commands.{options_of};
 ghost use Rattle.notes_value.specs.FrameViews.{contract_of};
 ghost use Rattle.io_edges.specs.Met.{seen};
 ghost use Rattle.io_edges.specs.Begun.{AreBegun};
+ghost use Rattle.program_value.specs.Programs.{program_of};
 ghost use Rattle.bilv_top.specs.Answers.{answer_of};
-ghost use Rattle.bilv_top.specs.Chosen.{IsMachineOf};
 ghost use Rattle.bilv_top.specs.Due.{IsOverFile};
-ghost use Rattle.bilv_top.specs.Frames.{AreContractsOver, AreFitted, IsFramedDone, IsOfFrames, IsOfProgram, IsSegmented, frame_named, names_of_frame_task, whole_by};
+ghost use Rattle.bilv_top.specs.Frames.{AreContractsOver, AreFitted, IsFramedDone, IsOfFrames, IsOfProgram, IsSegmented, frame_named, names_of_frame_task, whole_by, AreContractsOn, whole_with};
 ghost use Rattle.bilv_top.specs.Reads.{names_of_task};
 
 use crate::answer::{Answer, Step};
@@ -21,7 +21,7 @@ use crate::asked::rank_asked;
 use crate::certify::certify_frames_by;
 use crate::framed::{Framed, read_framed};
 use crate::graph::graph_frames_by;
-use crate::inputs::read_elf;
+use crate::inputs::{program_on, read_elf};
 use crate::machines::{layout, on_machine};
 use crate::reading::answer;
 use crate::replay::replay_frames_by;
@@ -34,6 +34,7 @@ use elf32_reader::Image;
 use exit_status::NOTES_REFUSED;
 use io_edges::Shelf;
 use machine_law::Machine;
+use program_value::Program;
 use rv_lift::Rv32;
 use start_value::{Layout, Profile};
 use std::alloc::{AllocError, Global};
@@ -95,34 +96,32 @@ fn plain_task<'a>(framed: &Framed, task: FrameTask<'a>) -> Option<Task<'a>>
 fn answer_framed_by<M: Machine, H: Shelf>(
     alloc: Global,
     shelf: &mut H,
-    image: &Image,
+    program: &Program<M>,
     framed: &Framed,
     task: FrameTask,
     rank: usize,
 ) -> Result<Answer, AllocError>
-    requires machine { IsMachineOf image.now M.machine }
-    requires found { IsOverFile image.now framed.now.found }
-    requires place { IsAtPlace M.machine.narrow framed.now.found.entry }
+    requires place { IsAtPlace M.machine.narrow program.now.entry }
     requires rising { IsStrictlyIncreasing framed.now.invariants.items }
-    requires contracts { AreContractsOver image.now framed.now.contracts.items }
-    requires fitted { AreFitted (whole_by M.machine image.now framed.now) }
+    requires contracts { AreContractsOn M.machine framed.now.contracts.items }
+    requires fitted { AreFitted (whole_with (program_of program.now) framed.now) }
     requires rank { rank ≤ length framed.now.contracts.items }
     ensures keeps { (n : List ℕ) → H.holds shelf.new n ≡ H.holds shelf.old n }
     ensures never_falls { (n : List ℕ) → H.faults shelf.old n ≤ H.faults shelf.new n }
     ensures begun { AreBegun (H.begun shelf.old) (H.begun shelf.new) (names_of_frame_task task.entry) }
     ensures done { IfOk result (λ a. IsSegmented (seen (H.holds shelf.old) (H.faults shelf.old) (H.faults shelf.new)) task.entry rank M.form
-        (whole_by M.machine image.now framed.now) (answer_of a)) }
+        (whole_with (program_of program.now) framed.now) (answer_of a)) }
 {
     match task {
-        FrameTask::Report(budget) => report_frames_by::<M>(alloc, image, framed, budget),
-        FrameTask::Graph => graph_frames_by::<M>(alloc, image, framed),
+        FrameTask::Report(budget) => report_frames_by::<M>(alloc, program, framed, budget),
+        FrameTask::Graph => graph_frames_by::<M>(alloc, program, framed),
         FrameTask::Script(question, budget, _) => {
-            script_frames_by::<M>(alloc, image, framed, budget, question, rank)
+            script_frames_by::<M>(alloc, program, framed, budget, question, rank)
         }
         FrameTask::Certificate(question, budget, _) => {
-            certify_frames_by::<M>(alloc, image, framed, budget, question, rank)
+            certify_frames_by::<M>(alloc, program, framed, budget, question, rank)
         }
-        FrameTask::Replay(name) => replay_frames_by::<M, H>(alloc, shelf, image, framed, name),
+        FrameTask::Replay(name) => replay_frames_by::<M, H>(alloc, shelf, program, framed, name),
     }
 }
 
@@ -150,7 +149,8 @@ fn answer_framed_of<M: Machine, H: Shelf>(
     ensures done { IfOk result (λ a. IsSegmented (seen (H.holds shelf.old) (H.faults shelf.old) (H.faults shelf.new)) task.entry rank
         (layout_of (options_of options) image.now) (whole_by (machine_of (options_of options) image.now) image.now framed.now) (answer_of a)) }
 {
-    answer_framed_by::<M, H>(alloc, shelf, image, framed, task, rank)
+    let program = program_on::<M>(image, &framed.found);
+    answer_framed_by::<M, H>(alloc, shelf, &program, framed, task, rank)
 }
 
 /// The same, by the file and some options.

@@ -1,6 +1,7 @@
 //! The inputs of commands: an ELF file, and notes over it; and the answers where they are refused.
 ghost use Rattle.std.specs.Prelude.{◌≡◌, ◌≤◌, ℕ, List, [], ◌∷◌, IfOk, MatchResult, codes, length};
 ghost use Rattle.call_spec.specs.Calls.{plain_answer};
+ghost use Rattle.bilv_spec.specs.Files as files;
 ghost use Rattle.bilv_spec.specs.Files.{machine_of, IsFunctionAt};
 ghost use Rattle.command_line.specs.Commands.{options_of};
 ghost use Rattle.call_spec.specs.Outside.{Agrees};
@@ -9,9 +10,11 @@ ghost use Rattle.notes_spec.specs.Verified as verified;
 ghost use Rattle.notes_spec.specs.Verified.{AfterImage, IsAccepted};
 ghost use Rattle.notes_lang.specs.Named.{dialect_of};
 ghost use Rattle.notes_lang.specs.Judging.{fault_of};
-ghost use Rattle.notes_value.specs.NoteViews.{function_of};
+ghost use Rattle.notes_value.specs.NoteViews.{function_of, notes_of};
+ghost use Rattle.program_value.specs.Programs.{program_of};
 ghost use Rattle.bilv_top.specs.Answers.{IsOfFile, IfStep, answer_of, elf_text_of};
-ghost use Rattle.bilv_top.specs.Due.{AreNotesAnswered, AreNotesAnsweredIn, IsFoundBy, IsFoundIn, IsNotesAnswer, IsUnread};
+ghost use Rattle.bilv_top.specs.Chosen.{IsMachineOf};
+ghost use Rattle.bilv_top.specs.Due.{IsOverFile, AreNotesAnswered, AreNotesAnsweredIn, IsFoundBy, IsFoundIn, IsNotesAnswer, IsUnread};
 ghost use Rattle.bilv_top.specs.Names.{missed_text, IsMissedFunction};
 ghost use Rattle.io_edges.specs.Begun.{AreBegun};
 
@@ -23,8 +26,10 @@ use command_line::Options;
 use elf32_reader::{ElfFault, Image, SymFault, read_image};
 use exit_status::{ELF_REFUSED, NOTES_REFUSED};
 use io_edges::Shelf;
+use machine_law::Machine;
 use notes_lang::{Dialect, NoteFault, NotesError, parse_notes};
 use notes_value::{Function, Notes};
+use program_value::Program;
 use std::alloc::{AllocError, Global};
 
 /// The most bytes of an ELF file.
@@ -79,6 +84,15 @@ pub fn entry_of(image: &Image, notes: &Notes, options: Options) -> Result<u32, S
         Function::At(at) => Ok(*at),
         Function::Named(name) => image.function_named(name, is_narrow(image, options)),
     }
+}
+
+/// The program that an image and what was found over it are, on its machine.
+pub fn program_on<'a, M: Machine>(image: &'a Image<'a>, found: &'a Found) -> Program<'a, M>
+    requires machine { IsMachineOf image.now M.machine }
+    requires found { IsOverFile image.now found.now }
+    ensures { program_of result ≡ files.program_of M.machine image.now (notes_of found.now.notes) found.now.entry }
+{
+    Program::new(image, &found.notes, found.entry)
 }
 
 /// The answer to notes with a faulty line. The error is want of memory.

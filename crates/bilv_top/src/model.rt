@@ -6,13 +6,11 @@ ghost use Rattle.machine_spec.specs.StateText as texts;
 ghost use Rattle.machine_spec.specs.StateText.{block_text, printed};
 ghost use Rattle.call_spec.specs.Calls as answers;
 ghost use Rattle.call_spec.specs.Calls.{AfterRead, plain_answer, program_question, Question as AskedQuestion};
-ghost use Rattle.bilv_spec.specs.Files.{program_of};
-ghost use Rattle.bilv_spec.specs.Run.{Program};
+ghost use Rattle.bilv_spec.specs.Run as tables;
 ghost use Rattle.model_spec.specs.Models.{AfterBudgets, IsAskedModelAnswer, IsFalseModelAnswer, IsModelAnswer, ending_text};
 ghost use Rattle.io_edges.specs.Met.{seen};
 ghost use Rattle.model_verdict.specs.Judgements.{IsJudged};
 ghost use Rattle.model_verdict.specs.Runs.{ending_of};
-ghost use Rattle.notes_value.specs.NoteViews.{notes_of};
 ghost use Rattle.call_form.specs.Views.{frame_question};
 ghost use Rattle.question_form.specs.Views.{kind_of, unrolled_of};
 ghost use Rattle.start_value.specs.Starts.{layout_of, written_of};
@@ -21,27 +19,25 @@ ghost use Rattle.verdict.specs.Grounds.{IsGround};
 ghost use Rattle.verdict.specs.Measures.{IsUnrolledOf};
 ghost use Rattle.verdict.specs.Rounds.{IsAskable};
 ghost use Rattle.verdict.specs.Verdicts.{budget_of};
+ghost use Rattle.program_value.specs.Programs.{program_of};
 ghost use Rattle.bilv_top.specs.Answers.{answer_of};
-ghost use Rattle.bilv_top.specs.Chosen.{IsMachineOf};
-ghost use Rattle.bilv_top.specs.Due.{IsOverFile};
 ghost use Rattle.io_edges.specs.Begun.{AreBegun};
 
 use crate::answer::{Answer, Evidence, Step};
-use crate::inputs::Found;
 use crate::reading::{TEXT_LIMIT, answer, read_or_answer};
 use crate::reports::beyond;
 use crate::texts::{model_fault_text, refused_line};
-use elf32_reader::Image;
 use exit_status::{DONE, TEXT_REFUSED};
 use io_edges::Shelf;
 use machine_law::Machine;
 use model_verdict::{End, Judged, judge};
 use program_points::PointsFault;
+use program_value::Program;
 use question_form::{Asked, Kind, Passive, Unrolled};
 use start_value::{Layout, Start};
 use state_text::{NamedEnding, StateText, print_state, push_block};
 use std::alloc::{AllocError, Global};
-use verdict::{Budget, Exceeded, Function, Measured, measure, unroll_within};
+use verdict::{Budget, Exceeded, Measured, measure, unroll_within};
 
 /// The answer that shows a start behind the line that accepts it. The error is want of memory.
 fn show_start(alloc: Global, form: Layout, start: Start) -> Result<Answer, AllocError>
@@ -130,7 +126,7 @@ fn untrue(alloc: Global) -> Result<Answer, AllocError>
 
 /// The answer to what the text of values is judged to be. The error is want of memory.
 fn say(alloc: Global, form: Layout, budget: &Budget, judged: Judged) -> Result<Answer, AllocError>
-    ensures { IfOk result (λ a. (p : Program) (question : AskedQuestion) (text : List ℕ) → length text ≤ text_limit →
+    ensures { IfOk result (λ a. (p : tables.Program) (question : AskedQuestion) (text : List ℕ) → length text ≤ text_limit →
         IsJudged p (layout_of form) budget.now.unroll question text judged →
         IsModelAnswer p (layout_of form) (budget_of budget.now) question text (answer_of a)) }
 {
@@ -144,7 +140,7 @@ fn say(alloc: Global, form: Layout, budget: &Budget, judged: Judged) -> Result<A
 /// The answer to what the text of values is judged to be by some question of a program, where another one is asked that is true of no reading. The error is want
 /// of memory.
 fn say_false(alloc: Global, judged: &Judged) -> Result<Answer, AllocError>
-    ensures { IfOk result (λ a. (p : Program) (layout : texts.Layout) (b : answers.Budget) (kind : AskedQuestion) (text : List ℕ) → length text ≤ text_limit →
+    ensures { IfOk result (λ a. (p : tables.Program) (layout : texts.Layout) (b : answers.Budget) (kind : AskedQuestion) (text : List ℕ) → length text ≤ text_limit →
         IsJudged p layout b.unroll kind text judged.now → IsFalseModelAnswer p layout b text (answer_of a)) }
 {
     match judged {
@@ -157,30 +153,22 @@ fn say_false(alloc: Global, judged: &Judged) -> Result<Answer, AllocError>
 /// Judges the text of values for a question of a program of a machine. The error is want of memory, or of numbers for points.
 fn judge_values<M: Machine>(
     alloc: Global,
-    image: &Image,
-    found: &Found,
+    program: &Program<M>,
     budget: &Budget,
     passive: &Passive,
     kind: Kind,
     text: &[u8],
 ) -> Result<Judged, AllocError>
-    requires machine { IsMachineOf image.now M.machine }
-    requires found { IsOverFile image.now found.now }
-    requires ground { IsGround (program_of M.machine image.now (notes_of found.now.notes) found.now.entry) budget.now.unroll M.form
+    requires ground { IsGround (program_of program.now) budget.now.unroll M.form
         (unrolled_of passive.now.unrolled.now) }
     requires points { length (unrolled_of passive.now.unrolled.now).points ≤ budget.now.points }
     requires askable { IsAskable passive.now }
     requires form { layout_of passive.now.unrolled.now.form ≡ M.form }
     requires text { length text.now ≤ text_limit }
-    ensures { IfOk result (IsJudged (program_of M.machine image.now (notes_of found.now.notes) found.now.entry) M.form budget.now.unroll (kind_of kind)
+    ensures { IfOk result (IsJudged (program_of program.now) M.form budget.now.unroll (kind_of kind)
         text.now) }
 {
-    let function = Function {
-        image,
-        notes: &found.notes,
-        entry: found.entry,
-    };
-    let judged = judge::<M>(alloc, &function, budget, passive, kind, text)?;
+    let judged = judge::<M>(alloc, program, budget, passive, kind, text)?;
     Ok(judged)
 }
 
@@ -188,34 +176,31 @@ fn judge_values<M: Machine>(
 /// and the text is judged for its faults alone. The error is want of memory, or of numbers for points.
 fn judge_text<M: Machine>(
     alloc: Global,
-    image: &Image,
-    found: &Found,
+    program: &Program<M>,
     budget: &Budget,
     passive: &Passive,
     question: Asked,
     text: &[u8],
 ) -> Result<Answer, AllocError>
-    requires machine { IsMachineOf image.now M.machine }
-    requires found { IsOverFile image.now found.now }
-    requires ground { IsGround (program_of M.machine image.now (notes_of found.now.notes) found.now.entry) budget.now.unroll M.form
+    requires ground { IsGround (program_of program.now) budget.now.unroll M.form
         (unrolled_of passive.now.unrolled.now) }
     requires points { length (unrolled_of passive.now.unrolled.now).points ≤ budget.now.points }
     requires askable { IsAskable passive.now }
     requires form { layout_of passive.now.unrolled.now.form ≡ M.form }
     requires text { length text.now ≤ text_limit }
-    ensures { IfOk result (λ a. IsAskedModelAnswer (program_of M.machine image.now (notes_of found.now.notes) found.now.entry) M.form (budget_of budget.now)
+    ensures { IfOk result (λ a. IsAskedModelAnswer (program_of program.now) M.form (budget_of budget.now)
         (program_question (frame_question question)) text.now (answer_of a)) }
 {
     let asked = question.program();
     match asked {
         Some(kind) => {
-            let judged = judge_values::<M>(alloc, image, found, budget, passive, kind, text)?;
+            let judged = judge_values::<M>(alloc, program, budget, passive, kind, text)?;
             let answer = say(alloc, M::layout(), budget, judged)?;
             Ok(answer)
         }
         None => {
             let kind = Kind::Entry;
-            let judged = judge_values::<M>(alloc, image, found, budget, passive, kind, text)?;
+            let judged = judge_values::<M>(alloc, program, budget, passive, kind, text)?;
             let answer = say_false(alloc, &judged)?;
             Ok(answer)
         }
@@ -226,16 +211,13 @@ fn judge_text<M: Machine>(
 fn judge_passive<M: Machine, H: Shelf>(
     alloc: Global,
     shelf: &mut H,
-    image: &Image,
-    found: &Found,
+    program: &Program<M>,
     budget: &Budget,
     passive: &Passive,
     question: Asked,
     name: &str,
 ) -> Result<Answer, AllocError>
-    requires machine { IsMachineOf image.now M.machine }
-    requires found { IsOverFile image.now found.now }
-    requires ground { IsGround (program_of M.machine image.now (notes_of found.now.notes) found.now.entry) budget.now.unroll M.form
+    requires ground { IsGround (program_of program.now) budget.now.unroll M.form
         (unrolled_of passive.now.unrolled.now) }
     requires points { length (unrolled_of passive.now.unrolled.now).points ≤ budget.now.points }
     requires askable { IsAskable passive.now }
@@ -244,7 +226,7 @@ fn judge_passive<M: Machine, H: Shelf>(
     ensures never_falls { (n : List ℕ) → H.faults shelf.old n ≤ H.faults shelf.new n }
     ensures begun { AreBegun (H.begun shelf.old) (H.begun shelf.new) (name.now ∷ []) }
     ensures read { IfOk result (λ a. AfterRead (seen (H.holds shelf.old) (H.faults shelf.old) (H.faults shelf.new)) name.now
-        (IsAskedModelAnswer (program_of M.machine image.now (notes_of found.now.notes) found.now.entry) M.form (budget_of budget.now)
+        (IsAskedModelAnswer (program_of program.now) M.form (budget_of budget.now)
         (program_question (frame_question question)))
         (answer_of a)) }
 {
@@ -253,7 +235,7 @@ fn judge_passive<M: Machine, H: Shelf>(
         Step::Go(text) => text,
         Step::Answered(answer) => return Ok(answer),
     };
-    let answer = judge_text::<M>(alloc, image, found, budget, passive, question, &text)?;
+    let answer = judge_text::<M>(alloc, program, budget, passive, question, &text)?;
     Ok(answer)
 }
 
@@ -262,30 +244,27 @@ fn judge_passive<M: Machine, H: Shelf>(
 fn judge_unrolled<M: Machine, H: Shelf>(
     alloc: Global,
     shelf: &mut H,
-    image: &Image,
-    found: &Found,
+    program: &Program<M>,
     budget: &Budget,
     unrolled: &Unrolled,
     question: Asked,
     name: &str,
 ) -> Result<Answer, AllocError>
-    requires machine { IsMachineOf image.now M.machine }
-    requires found { IsOverFile image.now found.now }
-    requires unrolled { IsUnrolledOf (program_of M.machine image.now (notes_of found.now.notes) found.now.entry) M.form (budget_of budget.now) unrolled.now }
+    requires unrolled { IsUnrolledOf (program_of program.now) M.form (budget_of budget.now) unrolled.now }
     requires form { layout_of unrolled.now.form ≡ M.form }
     ensures keeps { (n : List ℕ) → H.holds shelf.new n ≡ H.holds shelf.old n }
     ensures never_falls { (n : List ℕ) → H.faults shelf.old n ≤ H.faults shelf.new n }
     ensures begun { AreBegun (H.begun shelf.old) (H.begun shelf.new) (name.now ∷ []) }
-    ensures priced { IfOk result (λ a. AfterBudgets (program_of M.machine image.now (notes_of found.now.notes) found.now.entry) (budget_of budget.now)
+    ensures priced { IfOk result (λ a. AfterBudgets (program_of program.now) (budget_of budget.now)
         (AfterRead (seen (H.holds shelf.old) (H.faults shelf.old) (H.faults shelf.new)) name.now
-        (IsAskedModelAnswer (program_of M.machine image.now (notes_of found.now.notes) found.now.entry) M.form (budget_of budget.now)
+        (IsAskedModelAnswer (program_of program.now) M.form (budget_of budget.now)
         (program_question (frame_question question))))
         (answer_of a)) }
 {
     match measure(alloc, budget, unrolled)? {
         Measured::Above(price) => beyond(alloc, *budget, Exceeded::Size { price }),
         Measured::Within(passive) => judge_passive::<M, H>(
-            alloc, shelf, image, found, budget, &passive, question, name,
+            alloc, shelf, program, budget, &passive, question, name,
         ),
     }
 }
@@ -296,26 +275,23 @@ fn judge_unrolled<M: Machine, H: Shelf>(
 pub fn model_by<M: Machine, H: Shelf>(
     alloc: Global,
     shelf: &mut H,
-    image: &Image,
-    found: &Found,
+    program: &Program<M>,
     budget: Budget,
     question: Asked,
     name: &str,
 ) -> Result<Answer, AllocError>
-    requires machine { IsMachineOf image.now M.machine }
-    requires found { IsOverFile image.now found.now }
     ensures keeps { (n : List ℕ) → H.holds shelf.new n ≡ H.holds shelf.old n }
     ensures never_falls { (n : List ℕ) → H.faults shelf.old n ≤ H.faults shelf.new n }
     ensures begun { AreBegun (H.begun shelf.old) (H.begun shelf.new) (name.now ∷ []) }
-    ensures judged { IfOk result (λ a. AfterBudgets (program_of M.machine image.now (notes_of found.now.notes) found.now.entry) (budget_of budget)
+    ensures judged { IfOk result (λ a. AfterBudgets (program_of program.now) (budget_of budget)
         (AfterRead (seen (H.holds shelf.old) (H.faults shelf.old) (H.faults shelf.new)) name.now
-        (IsAskedModelAnswer (program_of M.machine image.now (notes_of found.now.notes) found.now.entry) M.form (budget_of budget)
+        (IsAskedModelAnswer (program_of program.now) M.form (budget_of budget)
         (program_question (frame_question question))))
         (answer_of a)) }
 {
-    match unroll_within::<M>(alloc, image, &found.notes, found.entry, &budget) {
+    match unroll_within::<M>(alloc, program, &budget) {
         Ok(unrolled) => judge_unrolled::<M, H>(
-            alloc, shelf, image, found, &budget, &unrolled, question, name,
+            alloc, shelf, program, &budget, &unrolled, question, name,
         ),
         Err(PointsFault::TooMany { count }) => beyond(alloc, budget, Exceeded::Points { count }),
         Err(PointsFault::Memory) => Err(AllocError),

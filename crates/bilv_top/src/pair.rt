@@ -169,7 +169,7 @@ pub fn read_notes_of<H: Shelf>(
 }
 
 /// The function of a side, whose notes were found over its file.
-pub fn sided<'a, 'b>(image: &'a Image<'b>, found: &'a Found, options: Options) -> Sided<'a, 'b>
+pub fn sided<'a>(image: &'a Image<'a>, found: &'a Found, options: Options) -> Sided<'a>
     requires found { IsOverFile image.now found.now }
     ensures sided { IsSided result }
     ensures side { side_of result ≡ equals.side_of (options_of options) image.now (program_found_by (options_of options) image.now found.now) }

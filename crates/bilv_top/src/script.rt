@@ -2,14 +2,12 @@
 ghost use Rattle.std.specs.Prelude.{◌≡◌, ◌≤◌, ℕ, string_bytes, IfOk, length};
 ghost use Rattle.std.specs.List.Sorted.{IsStrictlyIncreasing};
 ghost use Rattle.call_spec.specs.Calls.{plain_answer, Question as AskedQuestion};
-ghost use Rattle.bilv_spec.specs.Files.{program_of};
-ghost use Rattle.bilv_spec.specs.Run.{Program};
+ghost use Rattle.bilv_spec.specs.Run as tables;
 ghost use Rattle.bilv_spec.specs.Scripts.{IsScriptAnswer};
 ghost use Rattle.machine_spec.specs.StateText as texts;
+ghost use Rattle.program_value.specs.Programs.{program_of};
 ghost use Rattle.bilv_top.specs.Answers.{answer_of};
-ghost use Rattle.bilv_top.specs.Chosen.{IsMachineOf};
-ghost use Rattle.bilv_top.specs.Due.{IsOverFile};
-ghost use Rattle.bilv_top.specs.Frames.{AreContractsOver, AreFitted, whole_by};
+ghost use Rattle.bilv_top.specs.Frames.{AreContractsOn, AreFitted, whole_with};
 ghost use Rattle.call_form.specs.Views.{frame_question, kind_of};
 ghost use Rattle.command_line.specs.Commands.{budget_of};
 ghost use Rattle.frame_spec.specs.FrameScripts.{IsFrameScriptAnswer};
@@ -17,18 +15,16 @@ ghost use Rattle.frame_spec.specs.FrameQuestions.{Question as FrameQuestion};
 ghost use Rattle.frame_spec.specs.FrameVerdict.{Whole};
 ghost use Rattle.frame_verdict.specs.FrameScripted.{IsFrameScripted};
 ghost use Rattle.machine_spec.specs.Machine.{IsAtPlace};
-ghost use Rattle.notes_value.specs.NoteViews.{notes_of};
 ghost use Rattle.verdict.specs.Verdicts.{IsScripted};
 
 use crate::answer::{Answer, Evidence};
 use crate::framed::Framed;
-use crate::inputs::Found;
 use crate::reports::beyond;
 use command_line::{Asked, Budget, Kind};
-use elf32_reader::Image;
 use exit_status::DONE;
 use frame_verdict::script_frame;
 use machine_law::Machine;
+use program_value::Program;
 use std::alloc::{AllocError, Global};
 use verdict::{Scripted, script as script_of};
 
@@ -45,7 +41,7 @@ fn printed(text: String) -> Answer
 
 /// The answer to what the script of a question comes to within budgets. The error is want of memory.
 fn say(alloc: Global, budget: Budget, scripted: Scripted) -> Result<Answer, AllocError>
-    ensures { IfOk result (λ a. (p : Program) (layout : texts.Layout) (question : AskedQuestion) → IsScripted p layout (budget_of budget) question scripted →
+    ensures { IfOk result (λ a. (p : tables.Program) (layout : texts.Layout) (question : AskedQuestion) → IsScripted p layout (budget_of budget) question scripted →
         IsScriptAnswer p layout (budget_of budget) question (answer_of a)) }
 {
     match scripted {
@@ -57,17 +53,14 @@ fn say(alloc: Global, budget: Budget, scripted: Scripted) -> Result<Answer, Allo
 /// The answer that prints the script of a question about a program of a machine. The error is want of memory.
 pub fn script_by<M: Machine>(
     alloc: Global,
-    image: &Image,
-    found: &Found,
+    program: &Program<M>,
     budget: Budget,
     question: Kind,
 ) -> Result<Answer, AllocError>
-    requires machine { IsMachineOf image.now M.machine }
-    requires found { IsOverFile image.now found.now }
-    ensures { IfOk result (λ a. IsScriptAnswer (program_of M.machine image.now (notes_of found.now.notes) found.now.entry) M.form (budget_of budget)
+    ensures { IfOk result (λ a. IsScriptAnswer (program_of program.now) M.form (budget_of budget)
         (kind_of question) (answer_of a)) }
 {
-    let scripted = script_of::<M>(alloc, image, &found.notes, found.entry, &budget, question)?;
+    let scripted = script_of::<M>(alloc, program, &budget, question)?;
     say(alloc, budget, scripted)
 }
 
@@ -87,35 +80,24 @@ fn say_frame(alloc: Global, budget: Budget, scripted: Scripted) -> Result<Answer
 /// want of memory.
 pub fn script_frames_by<M: Machine>(
     alloc: Global,
-    image: &Image,
+    program: &Program<M>,
     framed: &Framed,
     budget: Budget,
     question: Asked,
     rank: usize,
 ) -> Result<Answer, AllocError>
-    requires machine { IsMachineOf image.now M.machine }
-    requires found { IsOverFile image.now framed.now.found }
-    requires place { IsAtPlace M.machine.narrow framed.now.found.entry }
+    requires place { IsAtPlace M.machine.narrow program.now.entry }
     requires rising { IsStrictlyIncreasing framed.now.invariants.items }
-    requires contracts { AreContractsOver image.now framed.now.contracts.items }
-    requires fitted { AreFitted (whole_by M.machine image.now framed.now) }
+    requires contracts { AreContractsOn M.machine framed.now.contracts.items }
+    requires fitted { AreFitted (whole_with (program_of program.now) framed.now) }
     requires rank { rank ≤ length framed.now.contracts.items }
-    ensures { IfOk result (λ a. IsFrameScriptAnswer (whole_by M.machine image.now framed.now) rank M.form (budget_of budget) (frame_question question)
+    ensures { IfOk result (λ a. IsFrameScriptAnswer (whole_with (program_of program.now) framed.now) rank M.form (budget_of budget) (frame_question question)
         (answer_of a)) }
 {
-    let found = &framed.found;
     let invariants = framed.invariants.as_slice();
     let contracts = framed.contracts.as_slice();
     let scripted = script_frame::<M>(
-        alloc,
-        image,
-        &found.notes,
-        invariants,
-        contracts,
-        found.entry,
-        rank,
-        &budget,
-        question,
+        alloc, program, invariants, contracts, rank, &budget, question,
     )?;
     say_frame(alloc, budget, scripted)
 }

@@ -1,12 +1,12 @@
 //! What is asked about the program that an ELF file and notes are, and its answer on the machine of the file.
 ghost use Rattle.std.specs.Prelude.{◌≡◌, ◌≤◌, ℕ, List, ◌∷◌, IfOk};
-ghost use Rattle.bilv_spec.specs.Files.{layout_of, machine_of, program_of};
+ghost use Rattle.bilv_spec.specs.Files.{layout_of, machine_of, program_of as files_program};
 ghost use Rattle.answer_spec.specs.Outcomes.{AfterBoth};
 ghost use Rattle.command_line.specs.Commands.{options_of};
 ghost use Rattle.notes_value.specs.NoteViews.{notes_of};
 ghost use Rattle.io_edges.specs.Met.{seen};
+ghost use Rattle.program_value.specs.Programs.{program_of};
 ghost use Rattle.bilv_top.specs.Answers.{answer_of};
-ghost use Rattle.bilv_top.specs.Chosen.{IsMachineOf};
 ghost use Rattle.bilv_top.specs.Due.{IsOverFile};
 ghost use Rattle.bilv_top.specs.Tasks.{IsDone};
 ghost use Rattle.io_edges.specs.Begun.{AreBegun};
@@ -14,7 +14,7 @@ ghost use Rattle.bilv_top.specs.Reads.{names_of_task};
 
 use crate::answer::{Answer, Step};
 use crate::certify::certify_by;
-use crate::inputs::{Found, read_elf, read_program};
+use crate::inputs::{Found, program_on, read_elf, read_program};
 use crate::machines::{layout, on_machine};
 use crate::model::model_by;
 use crate::script::script_by;
@@ -24,6 +24,7 @@ use command_line::{Asked, Budget, Kind, Options};
 use elf32_reader::Image;
 use io_edges::Shelf;
 use machine_law::Machine;
+use program_value::Program;
 use rv_lift::Rv32;
 use start_value::{Layout, Profile};
 use std::alloc::{AllocError, Global};
@@ -46,27 +47,22 @@ pub enum Task<'a> {
 fn answer_by<M: Machine, H: Shelf>(
     alloc: Global,
     shelf: &mut H,
-    image: &Image,
-    found: &Found,
+    program: &Program<M>,
     task: Task,
 ) -> Result<Answer, AllocError>
-    requires machine { IsMachineOf image.now M.machine }
-    requires found { IsOverFile image.now found.now }
     ensures keeps { (n : List ℕ) → H.holds shelf.new n ≡ H.holds shelf.old n }
     ensures never_falls { (n : List ℕ) → H.faults shelf.old n ≤ H.faults shelf.new n }
     ensures begun { AreBegun (H.begun shelf.old) (H.begun shelf.new) (names_of_task task.entry) }
     ensures done { IfOk result (λ a. IsDone (seen (H.holds shelf.old) (H.faults shelf.old) (H.faults shelf.new)) task.entry M.form
-        (program_of M.machine image.now (notes_of found.now.notes) found.now.entry) (answer_of a)) }
+        (program_of program.now) (answer_of a)) }
 {
     match task {
-        Task::Report(budget) => report_by::<M>(alloc, image, found, budget),
-        Task::Script(question, budget) => script_by::<M>(alloc, image, found, budget, question),
-        Task::Certificate(question, budget) => {
-            certify_by::<M>(alloc, image, found, budget, question)
+        Task::Report(budget) => report_by::<M>(alloc, program, budget),
+        Task::Script(question, budget) => script_by::<M>(alloc, program, budget, question),
+        Task::Certificate(question, budget) => { certify_by::<M>(alloc, program, budget, question) }
+        Task::Model(question, budget, name) => {
+            model_by::<M, H>(alloc, shelf, program, budget, question, name)
         }
-        Task::Model(question, budget, name) => model_by::<M, H>(
-            alloc, shelf, image, found, budget, question, name,
-        ),
     }
 }
 
@@ -87,9 +83,10 @@ fn answer_of_machine<M: Machine, H: Shelf>(
     ensures begun { AreBegun (H.begun shelf.old) (H.begun shelf.new) (names_of_task task.entry) }
     ensures done { IfOk result (λ a. IsDone (seen (H.holds shelf.old) (H.faults shelf.old) (H.faults shelf.new)) task.entry
         (layout_of (options_of options) image.now)
-        (program_of (machine_of (options_of options) image.now) image.now (notes_of found.now.notes) found.now.entry) (answer_of a)) }
+        (files_program (machine_of (options_of options) image.now) image.now (notes_of found.now.notes) found.now.entry) (answer_of a)) }
 {
-    answer_by::<M, H>(alloc, shelf, image, found, task)
+    let program = program_on::<M>(image, found);
+    answer_by::<M, H>(alloc, shelf, &program, task)
 }
 
 /// The answer to a task about a program. The error is out of memory.
@@ -107,7 +104,7 @@ pub fn answer_on<H: Shelf>(
     ensures begun { AreBegun (H.begun shelf.old) (H.begun shelf.new) (names_of_task task.entry) }
     ensures done { IfOk result (λ a. IsDone (seen (H.holds shelf.old) (H.faults shelf.old) (H.faults shelf.new)) task.entry
         (layout_of (options_of options) image.now)
-        (program_of (machine_of (options_of options) image.now) image.now (notes_of found.now.notes) found.now.entry) (answer_of a)) }
+        (files_program (machine_of (options_of options) image.now) image.now (notes_of found.now.notes) found.now.entry) (answer_of a)) }
 {
     on_machine!(
         image,

@@ -7,27 +7,26 @@ ghost use Rattle.io_edges.specs.Begun.{AreBegun};
 ghost use Rattle.io_edges.specs.Met.{met, seen};
 
 use crate::call::bilv_solve;
-use exit_status::NO_MEMORY;
+use exit_status::{End, NO_MEMORY};
 use io_edges::{Shelf, Sink};
 use std::alloc::{AllocError, Global};
-use std::process::ExitCode;
 
-/// Answers words, over files and a sink, and gives the status with which the program is to end: that of the answer, or that of memory that ran out before there
+/// Answers words, over files and a sink, and gives the end of the program: with the status of the answer, or with that of memory that ran out before there
 /// were words, where nothing is written.
 pub fn answer_words<H: Shelf, K: Sink>(
     alloc: Global,
     words: Result<Vec<String>, AllocError>,
     shelf: &mut H,
     out: &mut K,
-) -> ExitCode
+) -> End
     ensures answered { IfOk words (λ w. IsOutcome (met (seen (H.holds shelf.old) (H.faults shelf.old) (H.faults shelf.new)) (K.written out.old)
-        (K.written out.new) (K.faults out.old) (K.faults out.new)) (lawful_request (map (λ x. string_bytes x) w.items)) (exit_status result)) }
+        (K.written out.new) (K.faults out.old) (K.faults out.new)) (lawful_request (map (λ x. string_bytes x) w.items)) (exit_status result.code)) }
     ensures begun { IfOk words (λ w. AreBegun (H.begun shelf.old) (H.begun shelf.new) (files_of (lawful_request (map (λ x. string_bytes x) w.items)))) }
-    ensures no_words { OnErr words ((exit_status result ≡ 8) × (K.written out.new ≡ K.written out.old)) }
+    ensures no_words { OnErr words ((exit_status result.code ≡ 8) × (K.written out.new ≡ K.written out.old)) }
 {
     let Ok(words) = words else {
-        return ExitCode::from(NO_MEMORY);
+        return End::new(NO_MEMORY);
     };
     let status = bilv_solve(alloc, &words, shelf, out);
-    ExitCode::from(status)
+    End::new(status)
 }

@@ -1,5 +1,10 @@
-//! The exit statuses of the programs, and what each says.
+//! The exit statuses of the programs, what each says, and the end of a program.
 #![tactic(auto)]
+
+ghost use Rattle.std.specs.Prelude.{◌≡◌};
+ghost use Rattle.std.specs.Process.{exit_status};
+
+use std::process::ExitCode;
 
 /// What was asked for is there: a verdict `holds` or `vacuous`, lifted words, a flow graph, a script, a certificate that is printed or accepted, or a report
 /// that was replayed.
@@ -40,3 +45,27 @@ pub const UNSATISFIABLE: u8 = 20;
 
 /// The solver of clauses found neither within its budget of conflicts; solvers end so with the status of success.
 pub const UNDECIDED: u8 = 0;
+
+/// The end of a program: the status that it is to hand to the system. It cannot be dropped, so a program that was answered cannot end without its status.
+pub struct End {
+    pub code: ExitCode,
+}
+
+impl End {
+    /// The end with a status.
+    pub fn new(status: u8) -> End
+        ensures { exit_status result.code ≡ status }
+    {
+        End {
+            code: ExitCode::from(status),
+        }
+    }
+
+    /// The code that `main` gives.
+    pub fn code(self) -> ExitCode
+        ensures { result ≡ self.code }
+    {
+        let End { code } = self;
+        code
+    }
+}

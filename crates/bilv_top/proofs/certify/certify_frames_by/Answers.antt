@@ -6,20 +6,15 @@ use Rattle.frame_verdict.specs.FrameCertificates.{IsFrameCertificate}
 use Rattle.frame_verdict.specs.FrameFunctions.{IsCallable}
 use Rattle.notes_value.specs.FrameViews.{contract_of}
 use Rattle.notes_value.specs.declared.notes.Contract.{Contract}
-use Rattle.bilv_top.specs.Frames.{whole_by}
-use Rattle.bilv_top.proofs.Founds.{callable_contracts, found_over, machine_order, whole_same}
+use Rattle.program_value.specs.Programs.{program_of}
+use Rattle.bilv_top.specs.Frames.{whole_with}
+use Rattle.bilv_top.proofs.Founds.{callable_contracts, whole_same}
 use Rattle.bilv_top.proofs.certify.certify_frames_by.Goals as goal
-
-pub certify_frame-requires-clause-order : goal.certify_frame-requires-clause-order
-certify_frame-requires-clause-order g c = machine_order c.args.image.now g.M.Machine.machine c.requires.machine
-
-pub certify_frame-requires-clause-over : goal.certify_frame-requires-clause-over
-certify_frame-requires-clause-over g c = found_over c.args.image.now c.args.framed.now.found g.M.Machine.machine c.requires.machine c.requires.found
 
 pub certify_frame-requires-clause-callable : goal.certify_frame-requires-clause-callable
 certify_frame-requires-clause-callable g c =
     subst (λ (l : List Contract). All (λ x. IsCallable g.M.Machine.machine (contract_of x)) l) (sym c.as_slice-contracts.ensures.value)
-    (callable_contracts c.args.image.now g.M.Machine.machine c.args.framed.now c.requires.machine c.requires.contracts c.requires.fitted)
+    (callable_contracts (program_of c.args.program.now) c.args.framed.now c.requires.contracts c.requires.fitted)
 
 pub certify_frame-requires-clause-rank : goal.certify_frame-requires-clause-rank
 certify_frame-requires-clause-rank g c = subst (λ (l : List Contract). c.args.rank ≤ length l) (sym c.as_slice-contracts.ensures.value) c.requires.rank
@@ -28,6 +23,6 @@ pub returns : goal.returns
 returns g c =
     let f = c.args.framed.now in
     let certified = whole_same (λ w. IsFrameCertificate w c.args.rank (budget_of c.args.budget) (frame_question c.args.question) c.in_ok-certified.certified)
-    g.M.Machine.machine c.args.image.now f c.as_slice-invariants.result.now c.as_slice-contracts.result.now c.as_slice-invariants.ensures.value
+    (program_of c.args.program.now) f c.as_slice-invariants.result.now c.as_slice-contracts.result.now c.as_slice-invariants.ensures.value
     c.as_slice-contracts.ensures.value c.in_ok-certified.ensures in
-    IfOk-weaker c.say_frame.result _ _ (λ a said. said (whole_by g.M.Machine.machine c.args.image.now f) certified) c.say_frame.ensures
+    IfOk-weaker c.say_frame.result _ _ (λ a said. said (whole_with (program_of c.args.program.now) f) certified) c.say_frame.ensures

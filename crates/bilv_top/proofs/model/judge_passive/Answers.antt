@@ -1,9 +1,8 @@
 use Rattle.std.proofs.Common.{◌≤◌, length, subst, sym}
 use Rattle.clause_spec.specs.Checks.{text_limit}
-use Rattle.bilv_spec.specs.Files.{program_of}
+use Rattle.program_value.specs.Programs.{program_of}
 use Rattle.call_spec.specs.Calls.{program_question, was_read}
 use Rattle.call_spec.specs.Outside.{Agrees}
-use Rattle.notes_value.specs.NoteViews.{notes_of}
 use Rattle.io_edges.specs.Met.{seen}
 use Rattle.call_form.specs.Views.{frame_question}
 use Rattle.verdict.specs.Verdicts.{budget_of}
@@ -14,7 +13,7 @@ use Rattle.bilv_top.proofs.model.judge_passive.Goals as goal
 pub returns-in-Answered-clause-read : goal.returns-in-Answered-clause-read
 returns-in-Answered-clause-read g c =
     model_unread (seen (g.H.Shelf.holds c.args.shelf.now) (g.H.Shelf.faults c.args.shelf.now) (g.H.Shelf.faults c.read_or_answer.new.shelf))
-    c.args.name.now (program_of g.M.Machine.machine c.args.image.now (notes_of c.args.found.now.notes) c.args.found.now.entry) g.M.Machine.form
+    c.args.name.now (program_of c.args.program.now) g.M.Machine.form
     (budget_of c.args.budget.now) (program_question (frame_question c.args.question)) (answer_of c.in-Answered.answer) (rw c.in-Answered.is at c.in_ok-text.ensures.read)
 
 pub judge_text-requires-clause-text : goal.judge_text-requires-clause-text

@@ -1,9 +1,7 @@
-use Rattle.std.proofs.Common.{Option, Some, None, sym, subst}
-use Rattle.bilv_spec.specs.Files.{program_of}
-use Rattle.call_spec.specs.Calls.{Question, EntryQuestion, program_question}
-use Rattle.call_form.specs.Views.{frame_question}
+use Rattle.std.proofs.Common.{Option, subst}
+use Rattle.program_value.specs.Programs.{program_of}
+use Rattle.call_spec.specs.Calls.{Question, EntryQuestion}
 use Rattle.model_spec.specs.Models.{IsAskedModelAnswer}
-use Rattle.notes_value.specs.NoteViews.{notes_of}
 use Rattle.question_form.specs.Views.{kind_of}
 use Rattle.start_value.specs.Starts.{layout_of}
 use Rattle.verdict.specs.Verdicts.{budget_of}
@@ -13,7 +11,7 @@ use Rattle.bilv_top.proofs.model.judge_text.Goals as goal
 
 pub returns-in_ok-answer-in-Some : goal.returns-in_ok-answer-in-Some
 returns-in_ok-answer-in-Some g c =
-    let p = program_of g.M.Machine.machine c.args.image.now (notes_of c.args.found.now.notes) c.args.found.now.entry in
+    let p = program_of c.args.program.now in
     let b = budget_of c.args.budget.now in
     let text = c.args.text.now in
     let a = answer_of c.in_ok-answer-in-Some.answer in
@@ -24,7 +22,7 @@ returns-in_ok-answer-in-Some g c =
 
 pub returns-in_ok-answer-in-None : goal.returns-in_ok-answer-in-None
 returns-in_ok-answer-in-None g c =
-    let p = program_of g.M.Machine.machine c.args.image.now (notes_of c.args.found.now.notes) c.args.found.now.entry in
+    let p = program_of c.args.program.now in
     let b = budget_of c.args.budget.now in
     let text = c.args.text.now in
     subst (λ (asked : Option Question). IsAskedModelAnswer p g.M.Machine.form b asked text (answer_of c.in_ok-answer-in-None.answer))

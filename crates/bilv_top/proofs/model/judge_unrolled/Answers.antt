@@ -1,10 +1,9 @@
 use Rattle.std.proofs.Common.{◌∙◌, ◌≤◌, ap, length, subst, sym}
 use Rattle.std.proofs.lemmas.Result.{IfOk-weaker}
-use Rattle.bilv_spec.specs.Files.{program_of}
+use Rattle.program_value.specs.Programs.{program_of}
 use Rattle.call_spec.specs.Calls.{AfterRead, program_question}
 use Rattle.io_edges.specs.Met.{seen}
 use Rattle.model_spec.specs.Models.{IsAskedModelAnswer, within}
-use Rattle.notes_value.specs.NoteViews.{notes_of}
 use Rattle.call_form.specs.Views.{frame_question}
 use Rattle.question_form.specs.Views.{unrolled_of}
 use Rattle.question_form.specs.declared.unrolled.Unrolled.{Unrolled}
@@ -17,7 +16,7 @@ use Rattle.bilv_top.proofs.model.judge_unrolled.Goals as goal
 
 pub returns-in-Above-clause-priced : goal.returns-in-Above-clause-priced
 returns-in-Above-clause-priced g c =
-    let p = program_of g.M.Machine.machine c.args.image.now (notes_of c.args.found.now.notes) c.args.found.now.entry in
+    let p = program_of c.args.program.now in
     let b = budget_of c.args.budget.now in
     let s = seen (g.H.Shelf.holds c.args.shelf.now) (g.H.Shelf.faults c.args.shelf.now) (g.H.Shelf.faults c.args.shelf.now) in
     IfOk-weaker c.beyond.result _ _
@@ -27,7 +26,7 @@ returns-in-Above-clause-priced g c =
 
 pub judge_passive-requires-clause-ground : goal.judge_passive-requires-clause-ground
 judge_passive-requires-clause-ground g c =
-    let p = program_of g.M.Machine.machine c.args.image.now (notes_of c.args.found.now.notes) c.args.found.now.entry in
+    let p = program_of c.args.program.now in
     ((came_within (budget_of c.args.budget.now) c.args.unrolled.now c.in_ok-price.field-0 c.in_ok-price.ensures c.in-Within.passive c.in-Within.is).1
     p g.M.Machine.form c.requires.unrolled).1
 
@@ -49,7 +48,7 @@ judge_passive-requires-clause-form g c =
 
 pub returns-in-Within-clause-priced : goal.returns-in-Within-clause-priced
 returns-in-Within-clause-priced g c =
-    let p = program_of g.M.Machine.machine c.args.image.now (notes_of c.args.found.now.notes) c.args.found.now.entry in
+    let p = program_of c.args.program.now in
     IfOk-weaker c.judge_passive.result _ _
     (λ a read. within
     ((came_within (budget_of c.args.budget.now) c.args.unrolled.now c.in_ok-price.field-0 c.in_ok-price.ensures c.in-Within.passive c.in-Within.is).1

@@ -1,25 +1,17 @@
 use Rattle.std.proofs.lemmas.Result.{IfOk-weaker}
-use Rattle.bilv_spec.specs.Files.{program_of}
+use Rattle.program_value.specs.Programs.{program_of}
 use Rattle.call_spec.specs.Calls.{AfterRead, program_question}
 use Rattle.io_edges.specs.Met.{seen}
 use Rattle.model_spec.specs.Models.{IsAskedModelAnswer}
-use Rattle.notes_value.specs.NoteViews.{notes_of}
 use Rattle.call_form.specs.Views.{frame_question}
 use Rattle.verdict.specs.Verdicts.{budget_of}
 use Rattle.bilv_top.specs.Answers.{answer_of}
-use Rattle.bilv_top.proofs.Founds.{found_over, machine_order}
 use Rattle.bilv_top.proofs.Modelled.{points_exceeded}
 use Rattle.bilv_top.proofs.model.model_by.Goals as goal
 
-pub unroll_within-requires-clause-order : goal.unroll_within-requires-clause-order
-unroll_within-requires-clause-order g c = machine_order c.args.image.now g.M.Machine.machine c.requires.machine
-
-pub unroll_within-requires-clause-over : goal.unroll_within-requires-clause-over
-unroll_within-requires-clause-over g c = found_over c.args.image.now c.args.found.now g.M.Machine.machine c.requires.machine c.requires.found
-
 pub returns-in-Err-TooMany-clause-judged : goal.returns-in-Err-TooMany-clause-judged
 returns-in-Err-TooMany-clause-judged g c =
-    let p = program_of g.M.Machine.machine c.args.image.now (notes_of c.args.found.now.notes) c.args.found.now.entry in
+    let p = program_of c.args.program.now in
     let b = budget_of c.args.budget in
     let s = seen (g.H.Shelf.holds c.args.shelf.now) (g.H.Shelf.faults c.args.shelf.now) (g.H.Shelf.faults c.args.shelf.now) in
     IfOk-weaker c.beyond.result _ _

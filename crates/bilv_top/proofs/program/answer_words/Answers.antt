@@ -13,7 +13,7 @@ returns-clause-answered g c =
     (g.K.Sink.written c.args.out.now) (g.K.Sink.written c.bilv-outcome.new.out) (g.K.Sink.faults c.args.out.now) (g.K.Sink.faults c.bilv-outcome.new.out) in
     let end = subst (λ x. IsProgramEnd s (map (λ w. string_bytes w) x) c.bilv-outcome.result.status) c.deref.ensures.value
     (evidence_of c.bilv-outcome.result.evidence, c.bilv-outcome.ensures.outcome) in
-    rw c.from-2.ensures (rw c.in-Ok.is end)
+    rw c.new-2.ensures (rw c.in-Ok.is end)
 
 pub returns-clause-begun : goal.returns-clause-begun
 returns-clause-begun g c =

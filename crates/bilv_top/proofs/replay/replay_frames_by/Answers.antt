@@ -2,15 +2,16 @@ use Rattle.std.proofs.Common.{subst, sym}
 use Rattle.call_spec.specs.Calls.{was_read}
 use Rattle.call_spec.specs.Outside.{Agrees}
 use Rattle.io_edges.specs.Met.{seen}
+use Rattle.program_value.specs.Programs.{program_of}
 use Rattle.bilv_top.specs.Answers.{answer_of}
-use Rattle.bilv_top.specs.Frames.{whole_by}
+use Rattle.bilv_top.specs.Frames.{whole_with}
 use Rattle.bilv_top.proofs.Segments.{segment_unread}
 use Rattle.bilv_top.proofs.replay.replay_frames_by.Goals as goal
 
 pub returns-in-Answered-clause-read : goal.returns-in-Answered-clause-read
 returns-in-Answered-clause-read g c =
     segment_unread (seen (g.H.Shelf.holds c.args.shelf.now) (g.H.Shelf.faults c.args.shelf.now) (g.H.Shelf.faults c.read_or_answer.new.shelf))
-    c.args.name.now (whole_by g.M.Machine.machine c.args.image.now c.args.framed.now) g.M.Machine.form
+    c.args.name.now (whole_with (program_of c.args.program.now) c.args.framed.now) g.M.Machine.form
     (answer_of c.in-Answered.answer) (rw c.in-Answered.is at c.in_ok-text.ensures.read)
 
 pub returns-clause-read : goal.returns-clause-read

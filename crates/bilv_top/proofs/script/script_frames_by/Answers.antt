@@ -6,20 +6,15 @@ use Rattle.frame_verdict.specs.FrameScripted.{IsFrameScripted}
 use Rattle.frame_verdict.specs.FrameFunctions.{IsCallable}
 use Rattle.notes_value.specs.FrameViews.{contract_of}
 use Rattle.notes_value.specs.declared.notes.Contract.{Contract}
-use Rattle.bilv_top.specs.Frames.{whole_by}
-use Rattle.bilv_top.proofs.Founds.{callable_contracts, found_over, machine_order, whole_same}
+use Rattle.program_value.specs.Programs.{program_of}
+use Rattle.bilv_top.specs.Frames.{whole_with}
+use Rattle.bilv_top.proofs.Founds.{callable_contracts, whole_same}
 use Rattle.bilv_top.proofs.script.script_frames_by.Goals as goal
-
-pub script_frame-requires-clause-order : goal.script_frame-requires-clause-order
-script_frame-requires-clause-order g c = machine_order c.args.image.now g.M.Machine.machine c.requires.machine
-
-pub script_frame-requires-clause-over : goal.script_frame-requires-clause-over
-script_frame-requires-clause-over g c = found_over c.args.image.now c.args.framed.now.found g.M.Machine.machine c.requires.machine c.requires.found
 
 pub script_frame-requires-clause-callable : goal.script_frame-requires-clause-callable
 script_frame-requires-clause-callable g c =
     subst (λ (l : List Contract). All (λ x. IsCallable g.M.Machine.machine (contract_of x)) l) (sym c.as_slice-contracts.ensures.value)
-    (callable_contracts c.args.image.now g.M.Machine.machine c.args.framed.now c.requires.machine c.requires.contracts c.requires.fitted)
+    (callable_contracts (program_of c.args.program.now) c.args.framed.now c.requires.contracts c.requires.fitted)
 
 pub script_frame-requires-clause-rank : goal.script_frame-requires-clause-rank
 script_frame-requires-clause-rank g c = subst (λ (l : List Contract). c.args.rank ≤ length l) (sym c.as_slice-contracts.ensures.value) c.requires.rank
@@ -29,7 +24,7 @@ returns g c =
     let f = c.args.framed.now in
     let q = frame_question c.args.question in
     let scripted = whole_same (λ w. IsFrameScripted w c.args.rank g.M.Machine.form (budget_of c.args.budget) q c.in_ok-scripted.scripted)
-    g.M.Machine.machine c.args.image.now f c.as_slice-invariants.result.now c.as_slice-contracts.result.now c.as_slice-invariants.ensures.value
+    (program_of c.args.program.now) f c.as_slice-invariants.result.now c.as_slice-contracts.result.now c.as_slice-invariants.ensures.value
     c.as_slice-contracts.ensures.value c.in_ok-scripted.ensures in
     IfOk-weaker c.say_frame.result _ _
-    (λ a said. said (whole_by g.M.Machine.machine c.args.image.now f) c.args.rank g.M.Machine.form q scripted) c.say_frame.ensures
+    (λ a said. said (whole_with (program_of c.args.program.now) f) c.args.rank g.M.Machine.form q scripted) c.say_frame.ensures

@@ -1,4 +1,7 @@
+use Rattle.std.proofs.Common.{subst}
 use Rattle.std.proofs.lemmas.Result.{IfOk-weaker}
+use Rattle.bilv_spec.specs.Run.{Program}
+use Rattle.bilv_top.specs.Tasks.{IsDone}
 use Rattle.bilv_spec.specs.Files.{layout_of, machine_of}
 use Rattle.command_line.specs.Commands.{options_of}
 use Rattle.io_edges.specs.Met.{seen}
@@ -7,8 +10,8 @@ use Rattle.bilv_top.specs.Answers.{answer_of}
 use Rattle.bilv_top.proofs.Done.{done_on}
 use Rattle.bilv_top.proofs.tasks.answer_of_machine.Goals as goal
 
-pub answer_by-requires-clause-machine : goal.answer_by-requires-clause-machine
-answer_by-requires-clause-machine g c = (options_of c.args.options, c.requires.machine)
+pub program_on-program-requires-clause-machine : goal.program_on-program-requires-clause-machine
+program_on-program-requires-clause-machine g c = (options_of c.args.options, c.requires.machine)
 
 pub returns-clause-done : goal.returns-clause-done
 returns-clause-done g c =
@@ -17,4 +20,5 @@ returns-clause-done g c =
     let file = c.args.image.now in
     IfOk-weaker c.answer_by.result _ _
     (λ a done. done_on s c.args.task g.M.Machine.machine (machine_of o file) g.M.Machine.form (layout_of o file) file (notes_of c.args.found.now.notes)
-    c.args.found.now.entry (answer_of a) c.requires.machine c.requires.form done) c.answer_by.ensures.done
+    c.args.found.now.entry (answer_of a) c.requires.machine c.requires.form
+    (subst (λ (p : Program). IsDone s c.args.task g.M.Machine.form p (answer_of a)) c.program_on-program.ensures done)) c.answer_by.ensures.done

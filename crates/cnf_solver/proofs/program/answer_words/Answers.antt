@@ -12,7 +12,7 @@ returns-clause-answered g c =
     c.bilv_solve-status.new.out) in
     let end = subst (λ x. IsOutcome s (lawful_request (map (λ w. string_bytes w) x)) c.bilv_solve-status.result) c.deref.ensures.value
     c.bilv_solve-status.ensures.outcome in
-    rw c.from-2.ensures (rw c.in-Ok.is end)
+    rw c.new-2.ensures (rw c.in-Ok.is end)
 
 pub returns-clause-begun : goal.returns-clause-begun
 returns-clause-begun g c =
