@@ -53,13 +53,6 @@ impl Circuit {
         self.inputs
     }
 
-    /// How many gates there are.
-    pub fn gate_count(&self) -> usize
-        ensures { result + self.now.inputs + 1 ≡ next self.now }
-    {
-        self.gates.len()
-    }
-
     /// An input, counted from 0.
     pub fn input(&self, number: u32) -> Bit
         requires { number < self.now.inputs }

@@ -4,5 +4,5 @@
 mod listing;
 mod stretches;
 
-pub use listing::{Known, KnownBytes, kept_run_count, known_bytes};
+pub use listing::{Known, KnownBytes, known_bytes};
 pub use stretches::{Stretch, byte_in, first_given, first_known, known_stretch};

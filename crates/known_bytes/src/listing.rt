@@ -1,9 +1,8 @@
 //! The known bytes as runs.
 ghost use Rattle.std.specs.Prelude.{◌≡◌, ℕ, ◌<◌, ◌≤◌, ◌^◌, None, IfOk, map};
 ghost use Rattle.machine_spec.specs.Machine.{Machine};
-ghost use Rattle.bilv_spec.specs.Notes as notes_of_program;
 ghost use Rattle.bilv_spec.specs.Files.{program_of};
-ghost use Rattle.bilv_spec.specs.Points.{IsCount, is_known_at, begins_run};
+ghost use Rattle.bilv_spec.specs.Points.{IsCount, is_known_at};
 ghost use Rattle.walk_spec.specs.Unrolled.{byte_of_runs};
 ghost use Rattle.walk_spec.specs.Unrolling.{file_known};
 ghost use Rattle.notes_value.specs.NoteViews.{notes_of};
@@ -71,15 +70,4 @@ pub fn known_bytes<'a>(
         }
         at = part.last + 1;
     }
-}
-
-/// The number of the maximal runs of kept bytes of a file.
-pub fn kept_run_count(image: &Image) -> usize
-    ensures { (m : Machine) (notes : notes_of_program.Notes) (entry : ℕ) → IsCount (begins_run (program_of m image.now notes entry)) result }
-{
-    let runs = image.kept_runs();
-    for (first, _) in runs {
-        prove!(*first <= u32::MAX);
-    }
-    runs.len()
 }

@@ -17,34 +17,42 @@ enum Operator {
     Equal,
 }
 
-/// Builds the circuit of an operator on two words of 32 bits.
+/// Builds the circuit of an operator on two words of 32 bits, and gives the bits of its value.
 fn build(
     alloc: Global,
     circuit: &mut Circuit,
     operator: Operator,
     a: &[Bit],
     b: &[Bit],
-) -> Result<(), AllocError>
+) -> Result<Vec<Bit>, AllocError>
     requires a_width { length a.now ≡ 32 }
     requires b_width { length b.now ≡ 32 }
     requires a_within { Within (next circuit.old) a.now }
     requires b_within { Within (next circuit.old) b.now }
 {
     match operator {
-        Operator::ShiftLeft => shift_left(alloc, circuit, a, b).map(|_| ()),
-        Operator::ShiftSigned => shift_signed(alloc, circuit, a, b).map(|_| ()),
-        Operator::Product => product(alloc, circuit, a, b).map(|_| ()),
-        Operator::Equal => equal(circuit, a, b).map(|_| ()),
+        Operator::ShiftLeft => shift_left(alloc, circuit, a, b),
+        Operator::ShiftSigned => shift_signed(alloc, circuit, a, b),
+        Operator::Product => product(alloc, circuit, a, b),
+        Operator::Equal => {
+            let mut bits = Vec::new(alloc);
+            bits.push(equal(circuit, a, b)?)?;
+            Ok(bits)
+        }
     }
 }
 
-/// The gates of an operator on 32 inputs and a constant.
-fn gates_of(alloc: Global, operator: Operator, value: u64) -> Result<usize, AllocError> {
+/// The gates up to the last one that is a bit of an operator's value on 32 inputs and a constant. The inputs and true are the variables before the gates.
+fn gates_of(alloc: Global, operator: Operator, value: u64) -> Result<u32, AllocError> {
     let mut circuit = Circuit::new(alloc, 32)?;
     let a = inputs(alloc, &circuit, 0, 32)?;
     let b = constant(alloc, &circuit, 32, value)?;
-    build(alloc, &mut circuit, operator, &a, &b)?;
-    Ok(circuit.gate_count())
+    let bits = build(alloc, &mut circuit, operator, &a, &b)?;
+    let mut last = 32;
+    for bit in &bits {
+        last = last.max(bit.code() / 2);
+    }
+    Ok(last.saturating_sub(32))
 }
 
 /// A shift by a constant is wiring, a product by one takes a sum less than it has bits that are 1, and equality with one a gate less than bits.

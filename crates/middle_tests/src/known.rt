@@ -1,6 +1,5 @@
 //! The runs of kept bytes of a file.
 use elf32_reader::{ElfFault, read_image};
-use known_bytes::kept_run_count;
 
 /// A file for RISC-V of two segments. At 0x10000 are `addi a0,a0,1` and `ret`, which are executable; at 0x20000 are 8 writable bytes, of which the file has the
 /// first 4.
@@ -18,6 +17,6 @@ const FILE: [u8; 128] = [
 #[test]
 fn kept_runs_are_counted(rt: HostRuntime) -> Result<(), ElfFault> {
     let image = read_image(rt.alloc(), &FILE)?;
-    assert_eq!(rt; kept_run_count(&image), 1);
+    assert_eq!(rt; image.kept_runs().len(), 1);
     Ok(())
 }

@@ -1,7 +1,8 @@
 //! Shared terms that are folded.
+use bil_ast::BinaryOp;
 use byte_mem::Bytes32;
 use std::alloc::{AllocError, Global};
-use term_dag::{Dag, Node, Op, Reading, Term};
+use term_dag::{Dag, Node, Reading, Term};
 
 /// The sum of a term and a number. The error is a term that has not 32 bits, or want of memory.
 fn plus(dag: &mut Dag, left: Term, value: u32) -> Result<Term, AllocError> {
@@ -11,7 +12,7 @@ fn plus(dag: &mut Dag, left: Term, value: u32) -> Result<Term, AllocError> {
         return Err(AllocError);
     }
     let sum = dag.mk(Node::Binary {
-        op: Op::Plus,
+        op: BinaryOp::Plus,
         width: 32,
         left,
         right,
