@@ -25,12 +25,13 @@ fn spins(alloc: Global) -> Result<Vec<Stmt>, AllocError>
     Ok(list)
 }
 
-/// A loop that never ends.
+/// A jump, and behind it a loop that never ends: a list goes on behind a jump.
 fn endless(alloc: Global) -> Result<Vec<Stmt>, AllocError>
     ensures { IfOk result (λ list. list_names_only (statements list.items) is_machine ≡ true) }
 {
+    let jump = Stmt::Jump(Exp::Constant(Word::new(32, 4)));
     let always = Exp::Constant(Word::new(1, 1));
-    let list = vec![in alloc; Stmt::repeat(always, Vec::new(alloc))]?;
+    let list = vec![in alloc; jump, Stmt::repeat(always, Vec::new(alloc))]?;
     Ok(list)
 }
 
@@ -67,6 +68,20 @@ fn bound(alloc: Global) -> Result<Exp, AllocError> {
     Exp::bind(alloc, local, byte, both)
 }
 
+/// A word of 8 bits stored where 32 are said.
+fn short_store(alloc: Global) -> Result<Exp, AllocError> {
+    let memory = Exp::Var(Var::Memory);
+    let byte = Exp::Constant(Word::new(8, 1));
+    Exp::store(
+        alloc,
+        memory,
+        Exp::Var(X10),
+        Endian::Little,
+        Width::new(32),
+        byte,
+    )
+}
+
 /// The text of a copy of a list.
 fn copied_text(alloc: Global, list: &[Stmt]) -> Result<Vec<u8>, AllocError> {
     let copy = Stmt::copy_list(list, alloc)?;
@@ -89,18 +104,36 @@ x10 := let v3_8 = mem[x10, be]:8 in (high:1[v3_8] @ v3_8)
     Ok(())
 }
 
-/// A word of 8 bits stands where 32 are asked by the first node, in a list and in an expression.
-#[test]
-fn faults_of_type_are_found(rt: HostRuntime) -> Result<(), AllocError> {
-    let fault = TypeFault {
+/// A word of 8 bits stands where 32 are asked by the first node.
+fn fault() -> TypeFault {
+    TypeFault {
         place: 0,
         need: Need::Bits(Width::new(32)),
         found: BilType::Bits(Width::new(8)),
-    };
+    }
+}
+
+/// In a list and in an expression.
+#[test]
+fn faults_of_type_are_found(rt: HostRuntime) -> Result<(), AllocError> {
     let list = [Stmt::Jump(Exp::Constant(Word::new(8, 1)))];
-    assert_eq!(rt; check(&list), Err(fault));
+    assert_eq!(rt; check(&list), Err(fault()));
     let sum = sum(rt.alloc(), Word::new(8, 1))?;
-    assert_eq!(rt; type_of(&sum), Err(fault));
+    assert_eq!(rt; type_of(&sum), Err(fault()));
+    Ok(())
+}
+
+#[test]
+fn stored_words_have_their_width(rt: HostRuntime) -> Result<(), AllocError> {
+    let store = short_store(rt.alloc())?;
+    assert_eq!(rt; type_of(&store), Err(fault()));
+    Ok(())
+}
+
+#[test]
+fn the_highest_bit_is_cast(rt: HostRuntime) -> Result<(), AllocError> {
+    let both = bound(rt.alloc())?;
+    assert_eq!(rt; type_of(&both), Ok(BilType::Bits(Width::new(9))));
     Ok(())
 }
 
