@@ -7,14 +7,14 @@ use crate::fields::{field, is_set, register};
 use crate::register::{Register, RegisterList};
 
 /// An instruction of LDM and STM (section A3.12).
-#[derive(Clone, Copy, PartialEq, Eq, Debug)]
+#[derive(Clone, Copy)]
 pub struct Block {
     word: u32,
     ghost row: { (rows.condition_code word ≢ 15) × (rows.is_block word ≡ true) },
 }
 
 /// The fields of LDM and STM.
-#[derive(Clone, Copy, PartialEq, Eq, Debug)]
+#[derive(Clone, Copy)]
 pub struct BlockFields {
     pub is_load: bool,
     /// Whether the addresses go up from the base; else they end at it.

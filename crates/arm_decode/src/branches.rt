@@ -6,14 +6,14 @@ use crate::class::Class;
 use crate::fields::{field, is_set};
 
 /// An instruction of B and BL (section A3.3).
-#[derive(Clone, Copy, PartialEq, Eq, Debug)]
+#[derive(Clone, Copy, PartialEq, Eq)]
 pub struct Branch {
     word: u32,
     ghost row: { (rows.condition_code word ≢ 15) × (rows.is_branch word ≡ true) },
 }
 
 /// The fields of B and BL.
-#[derive(Clone, Copy, PartialEq, Eq, Debug)]
+#[derive(Clone, Copy)]
 pub struct BranchFields {
     pub is_linked: bool,
     /// What is added to the address and 8, as a word with its sign.

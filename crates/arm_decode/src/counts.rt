@@ -8,14 +8,14 @@ use crate::register::Register;
 use crate::versions::is_fifth;
 
 /// An instruction of CLZ (section A4.1.13).
-#[derive(Clone, Copy, PartialEq, Eq, Debug)]
+#[derive(Clone, Copy)]
 pub struct Count {
     word: u32,
     ghost row: { (rows.condition_code word ≢ 15) × (rows.is_count word ≡ true) },
 }
 
 /// The fields of CLZ: rd takes how many zeros stand above the highest one of rm.
-#[derive(Clone, Copy, PartialEq, Eq, Debug)]
+#[derive(Clone, Copy)]
 pub struct CountFields {
     pub rd: Register,
     pub rm: Register,

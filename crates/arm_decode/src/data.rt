@@ -9,14 +9,14 @@ use crate::parts::{Opcode, Operand};
 use crate::register::AnyRegister;
 
 /// An instruction of data processing (section A3.4).
-#[derive(Clone, Copy, PartialEq, Eq, Debug)]
+#[derive(Clone, Copy)]
 pub struct Computing {
     word: u32,
     ghost row: { (rows.condition_code word ≢ 15) × (rows.is_computing word ≡ true) },
 }
 
 /// The fields of data processing.
-#[derive(Clone, Copy, PartialEq, Eq, Debug)]
+#[derive(Clone, Copy)]
 pub struct ComputingFields {
     pub opcode: Opcode,
     pub sets_flags: bool,

@@ -8,7 +8,7 @@ use crate::register::Register;
 use crate::versions::has_exchange;
 
 /// An instruction of BX (section A4.1.10).
-#[derive(Clone, Copy, PartialEq, Eq, Debug)]
+#[derive(Clone, Copy)]
 pub struct Exchange {
     word: u32,
     ghost row: { (rows.condition_code word ≢ 15) × (rows.is_exchange word ≡ true) },

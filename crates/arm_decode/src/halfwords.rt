@@ -10,14 +10,14 @@ use crate::parts::{Addressing, HalfwordOffset, HalfwordOp};
 use crate::register::{AnyRegister, Register};
 
 /// An instruction of LDRH, STRH, LDRSB and LDRSH (section A3.11).
-#[derive(Clone, Copy, PartialEq, Eq, Debug)]
+#[derive(Clone, Copy)]
 pub struct Halfword {
     word: u32,
     ghost row: { (rows.condition_code word ≢ 15) × (rows.is_halfword word ≡ true) },
 }
 
 /// The fields of LDRH, STRH, LDRSB and LDRSH.
-#[derive(Clone, Copy, PartialEq, Eq, Debug)]
+#[derive(Clone, Copy)]
 pub struct HalfwordFields {
     pub op: HalfwordOp,
     pub addressing: Addressing,

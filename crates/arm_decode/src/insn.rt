@@ -20,7 +20,7 @@ use crate::swaps::Swap;
 use crate::transfers::Transfer;
 
 /// An instruction, by its class.
-#[derive(Clone, Copy, PartialEq, Eq, Debug)]
+#[derive(Clone, Copy)]
 pub enum Insn {
     Computing(Computing),
     Multiply(Multiply),

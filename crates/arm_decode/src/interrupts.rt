@@ -7,7 +7,7 @@ use crate::class::Class;
 use crate::fields::field;
 
 /// An instruction of SWI (section A3.14).
-#[derive(Clone, Copy, PartialEq, Eq, Debug)]
+#[derive(Clone, Copy)]
 pub struct SoftwareInterrupt {
     word: u32,
     ghost row: { (rows.condition_code word ≢ 15) × (rows.is_software_interrupt word ≡ true) },

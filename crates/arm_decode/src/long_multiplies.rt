@@ -8,7 +8,7 @@ use crate::register::Register;
 use crate::versions::is_fifth;
 
 /// An instruction of UMULL, UMLAL, SMULL and SMLAL (section A3.5).
-#[derive(Clone, Copy, PartialEq, Eq, Debug)]
+#[derive(Clone, Copy)]
 pub struct MultiplyLong {
     word: u32,
     keeps: bool,
@@ -16,7 +16,7 @@ pub struct MultiplyLong {
 }
 
 /// The fields of UMULL, UMLAL, SMULL and SMLAL: rm times rs goes to two registers.
-#[derive(Clone, Copy, PartialEq, Eq, Debug)]
+#[derive(Clone, Copy)]
 pub struct MultiplyLongFields {
     pub is_signed: bool,
     /// Whether the product is added to the two registers.

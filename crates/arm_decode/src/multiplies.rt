@@ -8,7 +8,7 @@ use crate::register::Register;
 use crate::versions::is_fifth;
 
 /// An instruction of MUL and MLA (section A3.5).
-#[derive(Clone, Copy, PartialEq, Eq, Debug)]
+#[derive(Clone, Copy)]
 pub struct Multiply {
     word: u32,
     keeps: bool,
@@ -16,7 +16,7 @@ pub struct Multiply {
 }
 
 /// The fields of MUL and MLA: rm times rs goes to rd.
-#[derive(Clone, Copy, PartialEq, Eq, Debug)]
+#[derive(Clone, Copy)]
 pub struct MultiplyFields {
     pub rd: Register,
     pub rm: Register,

@@ -7,7 +7,7 @@ ghost use Rattle.arm_decode.specs.Parts.{condition_number, opcode_number, kind_n
 use crate::register::{AnyRegister, Register, ShiftAmount};
 
 /// When an instruction does something (section A3.2).
-#[derive(Clone, Copy, PartialEq, Eq, Debug)]
+#[derive(Clone, Copy)]
 pub enum Condition {
     Eq,
     Ne,
@@ -63,7 +63,7 @@ impl Condition {
 }
 
 /// What data processing makes (section A3.4).
-#[derive(Clone, Copy, PartialEq, Eq, Debug)]
+#[derive(Clone, Copy)]
 pub enum Opcode {
     And,
     Eor,
@@ -148,7 +148,7 @@ impl Opcode {
 }
 
 /// How a register is shifted (section A5.1).
-#[derive(Clone, Copy, PartialEq, Eq, Debug)]
+#[derive(Clone, Copy)]
 pub enum ShiftKind {
     Lsl,
     Lsr,
@@ -172,7 +172,7 @@ impl ShiftKind {
 }
 
 /// The operand of data processing (section A5.1).
-#[derive(Clone, Copy, PartialEq, Eq, Debug)]
+#[derive(Clone, Copy)]
 pub enum Operand {
     /// A number of 8 bits, rotated to the right by twice the rotation, 0 to 15.
     Number {
@@ -230,7 +230,7 @@ impl Operand {
 }
 
 /// Whether the offset is added before the access, and whether the base is written back (section A5.2).
-#[derive(Clone, Copy, PartialEq, Eq, Debug)]
+#[derive(Clone, Copy)]
 pub enum Indexing {
     /// Before it, and the base stays.
     Offset,
@@ -263,7 +263,7 @@ impl Indexing {
 }
 
 /// How the address of an access is made of a base and an offset (section A5.2).
-#[derive(Clone, Copy, PartialEq, Eq, Debug)]
+#[derive(Clone, Copy)]
 pub struct Addressing {
     /// Whether the offset is added; else it is subtracted.
     pub is_up: bool,
@@ -271,7 +271,7 @@ pub struct Addressing {
 }
 
 /// The offset of LDR, LDRB, STR and STRB (section A5.2).
-#[derive(Clone, Copy, PartialEq, Eq, Debug)]
+#[derive(Clone, Copy)]
 pub enum Offset {
     /// A number of 12 bits.
     Number(u16),
@@ -284,7 +284,7 @@ pub enum Offset {
 }
 
 /// The offset of LDRH, STRH, LDRSB and LDRSH (section A5.3).
-#[derive(Clone, Copy, PartialEq, Eq, Debug)]
+#[derive(Clone, Copy)]
 pub enum HalfwordOffset {
     /// A number of 8 bits.
     Number(u8),
@@ -292,7 +292,7 @@ pub enum HalfwordOffset {
 }
 
 /// An access to a halfword or a signed byte (section A5.3).
-#[derive(Clone, Copy, PartialEq, Eq, Debug)]
+#[derive(Clone, Copy)]
 pub enum HalfwordOp {
     Ldrh,
     Ldrsb,

@@ -3,7 +3,7 @@ ghost use Rattle.std.specs.Prelude.{◌≡◌, ◌≢◌, ◌<◌, MatchOption};
 ghost use Rattle.machine_spec.specs.Arm.{has_bit};
 
 /// The number of a register that is not the program counter, r0 to r14 (section A2.3).
-#[derive(Clone, Copy, PartialEq, Eq, Debug)]
+#[derive(Clone, Copy, PartialEq, Eq)]
 pub struct Register {
     number: u8,
     ghost in_range: { number < 15 },
@@ -28,7 +28,7 @@ impl Register {
 }
 
 /// The number of a register, r0 to r15, of which r15 is the program counter (section A2.3).
-#[derive(Clone, Copy, PartialEq, Eq, Debug)]
+#[derive(Clone, Copy)]
 pub struct AnyRegister {
     number: u8,
     ghost in_range: { number < 16 },
@@ -66,7 +66,7 @@ impl AnyRegister {
 }
 
 /// The registers that LDM and STM load and store, at least one (section A5.4).
-#[derive(Clone, Copy, PartialEq, Eq, Debug)]
+#[derive(Clone, Copy)]
 pub struct RegisterList {
     bits: u16,
     ghost some: { bits ≢ 0 },
@@ -99,7 +99,7 @@ impl RegisterList {
 }
 
 /// By how many bits a shift by a number shifts, 0 to 31; 0 has a meaning of its own in each kind of shift (section A5.1).
-#[derive(Clone, Copy, PartialEq, Eq, Debug)]
+#[derive(Clone, Copy, PartialEq)]
 pub struct ShiftAmount {
     bits: u8,
     ghost in_range: { bits < 32 },

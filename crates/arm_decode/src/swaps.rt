@@ -7,14 +7,14 @@ use crate::fields::{field, is_set, register};
 use crate::register::Register;
 
 /// An instruction of SWP and SWPB (section A3.13).
-#[derive(Clone, Copy, PartialEq, Eq, Debug)]
+#[derive(Clone, Copy)]
 pub struct Swap {
     word: u32,
     ghost row: { (rows.condition_code word ≢ 15) × (rows.is_swap word ≡ true) },
 }
 
 /// The fields of SWP and SWPB: rd takes what was at the address rn, which takes rm.
-#[derive(Clone, Copy, PartialEq, Eq, Debug)]
+#[derive(Clone, Copy)]
 pub struct SwapFields {
     pub is_byte: bool,
     pub rn: Register,

@@ -10,14 +10,14 @@ use crate::parts::{Addressing, Offset};
 use crate::register::AnyRegister;
 
 /// An instruction of LDR, LDRB, STR and STRB (section A3.11).
-#[derive(Clone, Copy, PartialEq, Eq, Debug)]
+#[derive(Clone, Copy)]
 pub struct Transfer {
     word: u32,
     ghost row: { (rows.condition_code word ≢ 15) × (rows.is_transfer word ≡ true) },
 }
 
 /// The fields of LDR, LDRB, STR and STRB.
-#[derive(Clone, Copy, PartialEq, Eq, Debug)]
+#[derive(Clone, Copy)]
 pub struct TransferFields {
     pub is_load: bool,
     pub is_byte: bool,

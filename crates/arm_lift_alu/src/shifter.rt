@@ -13,7 +13,7 @@ use bv_word::Word;
 use std::alloc::{AllocError, Global};
 
 /// What is known of the carry that comes in.
-#[derive(Clone, Copy, PartialEq, Eq, Debug)]
+#[derive(Clone, Copy)]
 pub enum CarryIn {
     /// It is 0.
     Clear,

@@ -9,7 +9,7 @@ ghost use Rattle.arm_step.specs.Parts.{flags_of};
 use arm_decode::Condition;
 
 /// Negative, zero, carry and overflow.
-#[derive(Clone, Copy, PartialEq, Eq, Debug)]
+#[derive(Clone, Copy)]
 pub struct Flags {
     pub n: bool,
     pub z: bool,

@@ -10,7 +10,7 @@ use crate::words::{bits, is_set, rotated_right, word};
 use arm_decode::{ShiftAmount, ShiftKind};
 
 /// An operand, and the carry out of the shifter.
-#[derive(Clone, Copy, PartialEq, Eq, Debug)]
+#[derive(Clone, Copy)]
 pub struct Shifted {
     pub value: u32,
     pub carry: bool,

@@ -12,7 +12,7 @@ use crate::words::{bit_at, complement};
 use arm_decode::Opcode;
 
 /// A result, with the flags C and V.
-#[derive(Clone, Copy, PartialEq, Eq, Debug)]
+#[derive(Clone, Copy)]
 pub struct Computed {
     pub value: u32,
     pub carry: bool,

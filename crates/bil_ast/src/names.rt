@@ -10,14 +10,14 @@ pub enum BilType {
 }
 
 /// The registers of RISC-V, `x0` and on, or those of ARM, `r0` and on.
-#[derive(Clone, Copy, PartialEq, Eq, Debug)]
+#[derive(Clone, Copy)]
 pub enum Bank {
     XRegisters,
     RRegisters,
 }
 
 /// A local word, which a `let` binds: a number and a width tell it.
-#[derive(Clone, Copy, PartialEq, Eq, Debug)]
+#[derive(Clone, Copy)]
 pub struct Local {
     /// The number, which has no meaning beyond telling locals of one width apart.
     pub number: u32,
@@ -26,7 +26,7 @@ pub struct Local {
 }
 
 /// A variable.
-#[derive(Clone, Copy, PartialEq, Eq, Debug)]
+#[derive(Clone, Copy)]
 pub enum Var {
     /// A register of 32 bits, by its number.
     Register(Bank, u8),
@@ -39,7 +39,7 @@ pub enum Var {
 }
 
 /// An operator between two words of one width. The comparisons give 1 bit, the others a word of that width.
-#[derive(Clone, Copy, PartialEq, Eq, Hash, Debug)]
+#[derive(Clone, Copy, PartialEq, Eq, Hash)]
 pub enum BinaryOp {
     /// The sum, which wraps.
     Plus,
@@ -82,7 +82,7 @@ pub enum BinaryOp {
 }
 
 /// An operator on one word.
-#[derive(Clone, Copy, PartialEq, Eq, Debug)]
+#[derive(Clone, Copy)]
 pub enum UnaryOp {
     /// The negative, which wraps.
     Negate,
@@ -91,7 +91,7 @@ pub enum UnaryOp {
 }
 
 /// A change of width.
-#[derive(Clone, Copy, PartialEq, Eq, Debug)]
+#[derive(Clone, Copy)]
 pub enum CastKind {
     /// The lowest bits.
     Low,

@@ -13,7 +13,7 @@ use bv_word::Word;
 use byte_mem::Bytes32;
 
 /// A local's word: the local has the word's width.
-#[derive(Clone, Copy, PartialEq, Eq, Debug)]
+#[derive(Clone, Copy)]
 pub struct LocalWord {
     /// The local's number.
     pub number: u32,

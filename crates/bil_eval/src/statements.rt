@@ -17,14 +17,14 @@ use bil_ast::{Exp, Stmt, Var};
 use std::alloc::{AllocError, Global};
 
 /// How the statements so far ended: the list goes on, or an exception was raised.
-#[derive(Clone, Copy, PartialEq, Eq, Debug)]
+#[derive(Clone, Copy)]
 pub enum Flow {
     On,
     Raised(u32),
 }
 
 /// The last jump that was made, and how many turns loops may still make.
-#[derive(Clone, Copy, PartialEq, Eq, Debug)]
+#[derive(Clone, Copy)]
 pub struct Progress {
     pub jump: Option<u32>,
     pub turns: u64,

@@ -13,7 +13,7 @@ use byte_mem::Endian;
 use std::alloc::{AllocError, Global};
 
 /// A word of 32 bits that memory is known to have: its byte order, its address and its value.
-#[derive(Clone, Copy, PartialEq, Eq, Debug)]
+#[derive(Clone, Copy)]
 pub struct Literal {
     pub order: Endian,
     pub at: u32,

@@ -13,14 +13,14 @@ use bv_word::Word;
 pub use bytes::{Bytes32, one_list};
 
 /// A byte order: the lowest byte at the lowest address, or the highest.
-#[derive(Clone, Copy, PartialEq, Eq, Debug)]
+#[derive(Clone, Copy)]
 pub enum Endian {
     Little,
     Big,
 }
 
 /// How a jump is made: to an address that the instruction names, or to one that the state gives. A call keeps its return address in a link register.
-#[derive(Clone, Copy, PartialEq, Eq, Debug)]
+#[derive(Clone, Copy)]
 pub enum How {
     Direct,
     DirectCall,
@@ -30,7 +30,7 @@ pub enum How {
 
 /// How a step ends: at the next address, by a jump, or by an exception that leaves the state as it was (an odd address of a halfword, a trap, an unaligned
 /// address of a load to the program counter).
-#[derive(Clone, Copy, PartialEq, Eq, Debug)]
+#[derive(Clone, Copy)]
 pub enum StepOut {
     Next,
     Jump { to: u32, how: How },

@@ -2,7 +2,7 @@
 ghost use Rattle.call_spec.specs.Calls as calls;
 
 /// The whole numbers that a budget may be, and the one that it is where none is given.
-#[derive(Clone, Copy, Debug)]
+#[derive(Clone, Copy)]
 pub struct Range {
     /// The lowest.
     pub low: u64,
@@ -47,7 +47,7 @@ pub const CONFLICTS: Range = Range {
 };
 
 /// How much work a call may do, each number in its range.
-#[derive(Clone, Copy, PartialEq, Eq, Debug)]
+#[derive(Clone, Copy)]
 pub struct Budget {
     /// Backward transfers of a run, in `UNROLL`.
     pub unroll: u64,

@@ -5,7 +5,7 @@ ghost use Rattle.call_spec.specs.Framed as framed;
 ghost use Rattle.call_form.specs.Views.{asked_of, frame_question, kind_of};
 
 /// Which question is asked of a program: whether there is an entry state, whether its run has an event, or whether its run makes too many backward transfers.
-#[derive(Clone, Copy, PartialEq, Eq, Debug)]
+#[derive(Clone, Copy, PartialEq, Eq)]
 pub enum Kind {
     Entry,
     Fail,
@@ -14,7 +14,7 @@ pub enum Kind {
 
 /// Which question of a frame is asked, in the order in which they are due: whether there is an entry state, whether the entry's segment has an event, whether a
 /// segment from a head state has one, or whether a segment makes too many backward transfers.
-#[derive(Clone, Copy, PartialEq, Eq, Debug)]
+#[derive(Clone, Copy, PartialEq, Eq)]
 pub enum Asked {
     Entry,
     Fail,

@@ -74,7 +74,7 @@ impl CalledEnding {
 }
 
 /// What the contract of an address may change, by the numbers of registers and flags.
-#[derive(Drop, Debug)]
+#[derive(Drop)]
 pub struct ContractChanges {
     pub at: u32,
     /// Registers, in the machine's order.
@@ -84,7 +84,7 @@ pub struct ContractChanges {
 }
 
 /// The ending that a report names with the start that shows it, with the head state where the segment begins in one, and with what contract steps are given.
-#[derive(Drop, Debug)]
+#[derive(Drop)]
 pub struct CalledText {
     pub named: CalledEnding,
     /// The state from which the run of the function begins. Where a head state follows, its choices are none and are not printed.

@@ -9,7 +9,7 @@ pub struct Cnf {
 }
 
 /// A hint of a line of a log: the id of a clause, or a negative number, without its sign.
-#[derive(Clone, Copy, PartialEq, Eq, Debug)]
+#[derive(Clone, Copy)]
 pub enum Hint {
     ById(u64),
     Negative(u64),

@@ -6,7 +6,7 @@ use std::marker::Model;
 
 /// A variable or its negation. Variables count from 1, and none is above 2^62, the greatest number of a log.
 /// Contracts see it as the literal.
-#[derive(Clone, Copy, PartialEq, Eq, Debug)]
+#[derive(Clone, Copy)]
 pub struct Lit {
     variable: u64,
     positive: bool,

@@ -12,7 +12,7 @@ use std::marker::Model;
 const CAP: u64 = (1 << 62) + 1;
 
 /// A whole number: its absolute value, and whether it is below 0. Contracts see it as the integer.
-#[derive(Clone, Copy, PartialEq, Eq, Debug)]
+#[derive(Clone, Copy)]
 pub struct Number {
     negative: bool,
     size: u64,

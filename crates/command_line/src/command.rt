@@ -3,7 +3,7 @@ use call_form::{Asked, Budget};
 use start_value::Profile;
 
 /// What an executable leaves open of its machine.
-#[derive(Clone, Copy, PartialEq, Eq, Debug)]
+#[derive(Clone, Copy)]
 pub struct Options {
     /// The profile of an ARM file. It changes nothing of a RISC-V file.
     pub profile: Profile,
@@ -28,7 +28,7 @@ impl Options {
 }
 
 /// The names of two executables, each with its notes, and of the links between them, as they were written.
-#[derive(Clone, Copy, PartialEq, Eq, Debug)]
+#[derive(Clone, Copy)]
 pub struct PairNames<'a> {
     /// The first executable.
     pub elf: &'a str,
@@ -43,7 +43,7 @@ pub struct PairNames<'a> {
 }
 
 /// What the program is asked to do. File names stand as they were written.
-#[derive(Clone, Copy, PartialEq, Eq, Debug)]
+#[derive(Clone, Copy)]
 pub enum Command<'a> {
     /// Decides whether the function that the notes name keeps what they demand.
     Verify {

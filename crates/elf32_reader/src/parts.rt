@@ -8,7 +8,7 @@ use crate::runs::is_kept;
 use crate::segments::{ProgramHeader, begun};
 
 /// The loaded addresses of one segment from one of them on.
-#[derive(Clone, Copy, Debug)]
+#[derive(Clone, Copy)]
 pub struct Part<'a> {
     /// The first address.
     pub first: u32,

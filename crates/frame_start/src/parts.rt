@@ -25,7 +25,7 @@ use start_value::Start;
 use std::alloc::{AllocError, Global};
 
 /// The entry, the head and gifts as they are written, without choices. The head is one only where the question speaks of head states.
-#[derive(Drop, Debug)]
+#[derive(Drop)]
 pub struct Parts {
     pub entry: Start,
     pub head: Start,

@@ -59,7 +59,7 @@ pub enum FramedEnding {
 }
 
 /// The ending that a report names with the start that shows it, and with the head state where the segment begins in one.
-#[derive(Drop, Debug)]
+#[derive(Drop)]
 pub struct FramedText {
     pub named: FramedEnding,
     /// The state from which the run of the function begins. Where a head state follows, its choices are none and are not printed.

@@ -19,7 +19,7 @@ use std::alloc::{AllocError, Global};
 
 /// A start as it is shown: the state at entry; where the segment begins at a head, the head state; and what its contract steps are given. The choices are those
 /// of the segment.
-#[derive(Drop, Debug)]
+#[derive(Drop)]
 pub struct Shown {
     pub start: Start,
     pub head: Option<HeadStart>,

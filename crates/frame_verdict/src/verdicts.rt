@@ -7,7 +7,7 @@ use state_text::{CallState, HeadStart};
 use verdict::Exceeded;
 
 /// How a segment of a frame ends that shows a verdict, with the address and the number of its last step; steps are counted from 0 where the segment begins.
-#[derive(Clone, Copy, PartialEq, Eq, Debug)]
+#[derive(Clone, Copy)]
 pub enum Named {
     /// By an event.
     Failed {

@@ -6,7 +6,7 @@ ghost use Rattle.gates.specs.Circuits.{variable_of, bit_value, literal_of};
 use cnf_form::Lit;
 
 /// A variable of a circuit or its negation: twice the variable, and 1 more for the negation. Variables count from 0 here, and from 1 in clauses.
-#[derive(Clone, Copy, PartialEq, Eq, Debug)]
+#[derive(Clone, Copy, PartialEq, Eq)]
 pub struct Bit {
     code: u32,
 }

@@ -2,7 +2,7 @@
 use crate::bit::Bit;
 
 /// What a variable that is no input stands for.
-#[derive(Clone, Copy, PartialEq, Eq, Debug)]
+#[derive(Clone, Copy, PartialEq, Eq)]
 pub enum Gate {
     /// Both.
     And(Bit, Bit),

@@ -2,7 +2,7 @@
 use machine_law::FlagUse;
 
 /// How an address leads to a successor. The order of the letters is that in which successors of one address stand.
-#[derive(Clone, Copy, PartialEq, Eq, Debug)]
+#[derive(Clone, Copy, PartialEq, Eq)]
 pub enum Letter {
     /// The next address.
     Next,
@@ -15,14 +15,14 @@ pub enum Letter {
 }
 
 /// An address that another leads to.
-#[derive(Clone, Copy, PartialEq, Eq, Debug)]
+#[derive(Clone, Copy)]
 pub struct Successor {
     pub letter: Letter,
     pub to: u32,
 }
 
 /// An address of a graph. Sets of flags are N 8, Z 4, C 2 and V 1.
-#[derive(Drop, Debug)]
+#[derive(Drop)]
 pub struct Node {
     pub at: u32,
     /// How many bytes the row has, 2 or 4; 4 where there is no row.
@@ -46,7 +46,7 @@ pub struct Node {
 }
 
 /// The flow graph of a program.
-#[derive(Drop, Debug)]
+#[derive(Drop)]
 pub struct Graph {
     /// Some rows of the machine have 2 bytes.
     pub narrow: bool,

@@ -15,7 +15,7 @@ use std::alloc::{AllocError, Global};
 
 /// Known bytes that stand together. Those behind the ones that the file has are 0; a run that ends early has more of them than addresses, which do not belong
 /// to it.
-#[derive(Clone, Copy, Debug)]
+#[derive(Clone, Copy)]
 pub struct Known<'a> {
     /// The first address.
     pub first: u32,
@@ -26,7 +26,7 @@ pub struct Known<'a> {
 }
 
 /// The known bytes of a file with notes.
-#[derive(Drop, Debug)]
+#[derive(Drop)]
 pub struct KnownBytes<'a> {
     /// The runs, rising. Two may meet.
     pub runs: Vec<Known<'a>>,

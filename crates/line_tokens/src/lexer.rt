@@ -15,7 +15,7 @@ use crate::sign::{Sign, sign_at};
 use std::alloc::{AllocError, Global};
 
 /// A token of a line, whose bytes it borrows.
-#[derive(Clone, Copy, Debug)]
+#[derive(Clone, Copy)]
 pub enum Token<'a> {
     /// A number below 2^32.
     Number(u32),

@@ -7,7 +7,7 @@ ghost use Rattle.line_tokens.specs.Tokens.{sign_text};
 use crate::bytes::stops;
 
 /// An operator or a bracket.
-#[derive(Clone, Copy, PartialEq, Eq, Debug)]
+#[derive(Clone, Copy)]
 pub enum Sign {
     /// `>>>`
     ShiftSigned,

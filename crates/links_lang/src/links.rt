@@ -1,7 +1,7 @@
 //! Links as values.
 
 /// A register or a flag of one of two machines.
-#[derive(Clone, Copy, PartialEq, Eq, Debug)]
+#[derive(Clone, Copy)]
 pub enum Named {
     /// The register that is always 0.
     Zero,
@@ -12,7 +12,7 @@ pub enum Named {
 }
 
 /// What two functions are to agree on, with the number of its line, from 1 on.
-#[derive(Clone, Copy, PartialEq, Eq, Debug)]
+#[derive(Clone, Copy)]
 pub enum Link {
     /// A register or a flag of the first function's entry state has the value of one of the second's.
     Entry {

@@ -3,7 +3,7 @@ use question_form::Question;
 use term_dag::{Dag, Term};
 
 /// A base read: of a part's memory, at the address of a number.
-#[derive(Clone, Copy, PartialEq, Eq, Debug)]
+#[derive(Clone, Copy)]
 pub struct BaseRead {
     pub part: u32,
     pub address: u32,

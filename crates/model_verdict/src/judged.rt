@@ -15,7 +15,7 @@ pub enum End {
 }
 
 /// What the answer to a question is judged to be.
-#[derive(Drop, Debug)]
+#[derive(Drop)]
 pub enum Judged {
     /// The text is refused at a line, which counts from 1.
     Refused { line: u64, kind: ModelFaultKind },

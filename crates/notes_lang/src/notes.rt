@@ -4,7 +4,7 @@ pub use notes_value::{
 };
 
 /// Which lines of invariants and contracts a text may have.
-#[derive(Clone, Copy, PartialEq, Eq, Debug)]
+#[derive(Clone, Copy)]
 pub enum Dialect {
     /// None: their words begin no line.
     Plain,

@@ -15,7 +15,7 @@ use line_tokens::Token;
 use notes_value::Expr;
 
 /// How a line is read: as it must be; with any name and any bounds of an `all`; or as if every word had a meaning, for its form alone.
-#[derive(Clone, Copy, PartialEq, Eq)]
+#[derive(Clone, Copy)]
 pub(crate) enum Mode {
     Strict,
     Lenient,

@@ -2,7 +2,7 @@
 
 /// The binary operators on words of 32 bits. Sums, differences and products wrap; shifts by 32 and above give all fill; comparisons, `Or` and `And` give 1 or
 /// 0. Comparisons are of unsigned numbers but for those that say `Signed`.
-#[derive(Clone, Copy, PartialEq, Eq, Debug)]
+#[derive(Clone, Copy)]
 pub enum Operator {
     Or,
     And,
@@ -28,7 +28,7 @@ pub enum Operator {
 }
 
 /// How many bytes a load has: 1, 2 or 4.
-#[derive(Clone, Copy, PartialEq, Eq, Debug)]
+#[derive(Clone, Copy)]
 pub enum Size {
     Byte,
     Half,
@@ -36,7 +36,7 @@ pub enum Size {
 }
 
 /// An expression over a state and the state at entry; its value is a word of 32 bits.
-#[derive(Drop, Debug)]
+#[derive(Drop)]
 pub enum Expr {
     /// A number.
     Number(u32),

@@ -11,7 +11,7 @@ use std::collections::BTreeSet;
 type Key = (u64, usize, u32, bool, Option<(usize, u32)>);
 
 /// Where a listing of points stops: the cuts of the frame, the most backward transfers, and the most points.
-#[derive(Clone, Copy, Debug)]
+#[derive(Clone, Copy)]
 pub struct Limits<'a> {
     pub cuts: Cuts<'a>,
     pub k: u64,

@@ -7,7 +7,7 @@ use std::alloc::{AllocError, Global};
 use std::collections::BTreeMap;
 
 /// The stacks that were found, and the number of each by its top and the number of the stack below.
-#[derive(Drop, Debug)]
+#[derive(Drop)]
 pub struct Stacks {
     pub frames: Vec<Frame>,
     pub numbers: BTreeMap<(u32, usize), usize>,

@@ -6,7 +6,7 @@ use std::alloc::AllocError;
 use thiserror::Error;
 
 /// A point of a program: how many backward transfers were made, its stack by number, and its address.
-#[derive(Clone, Copy, PartialEq, Eq, Debug)]
+#[derive(Clone, Copy)]
 pub struct Point {
     pub turns: u64,
     pub stack: usize,
@@ -14,14 +14,14 @@ pub struct Point {
 }
 
 /// Where the runs of a frame of contracts are cut: at its heads. And the addresses of the contracts that its calls step over.
-#[derive(Clone, Copy, Debug)]
+#[derive(Clone, Copy)]
 pub struct Cuts<'a> {
     pub heads: &'a [u32],
     pub stepped: &'a [u32],
 }
 
 /// Where a segment begins that does not begin at the entry: at a head, with a stack by number.
-#[derive(Clone, Copy, PartialEq, Eq, Debug)]
+#[derive(Clone, Copy)]
 pub struct Root {
     pub stack: usize,
     pub at: u32,
@@ -29,7 +29,7 @@ pub struct Root {
 
 /// A point of a frame of contracts: where its segment begins, none at the entry; how many backward transfers were made since; whether a contract step is made
 /// there, in place of the row; its stack by number, and its address.
-#[derive(Clone, Copy, PartialEq, Eq, Debug)]
+#[derive(Clone, Copy)]
 pub struct FramePoint {
     pub root: Option<Root>,
     pub turns: u64,
@@ -39,7 +39,7 @@ pub struct FramePoint {
 }
 
 /// A stack that is not empty: its top, and the number of the stack below.
-#[derive(Clone, Copy, PartialEq, Eq, Debug)]
+#[derive(Clone, Copy)]
 pub struct Frame {
     pub top: u32,
     pub below: usize,
@@ -53,14 +53,14 @@ pub struct End {
 }
 
 /// The points of a program. Stack 0 is empty; stack i + 1 is frame i. Equal stacks have equal numbers.
-#[derive(Drop, Debug)]
+#[derive(Drop)]
 pub struct Points {
     pub stacks: Stacks,
     pub points: Vec<Point>,
 }
 
 /// The points of a frame of contracts. Stack 0 is empty; stack i + 1 is frame i. Equal stacks have equal numbers.
-#[derive(Drop, Debug)]
+#[derive(Drop)]
 pub struct FramePoints {
     pub stacks: Stacks,
     pub points: Vec<FramePoint>,

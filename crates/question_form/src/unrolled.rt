@@ -9,7 +9,7 @@ use program_points::Frame;
 use start_value::Layout;
 
 /// Where an edge leads.
-#[derive(Clone, Copy, PartialEq, Eq, Debug)]
+#[derive(Clone, Copy)]
 pub enum Aim {
     /// On to the point of a place.
     OnTo(u32),
@@ -22,7 +22,7 @@ pub enum Aim {
 }
 
 /// An edge of a point.
-#[derive(Clone, Copy, PartialEq, Eq, Debug)]
+#[derive(Clone, Copy)]
 pub struct Edge {
     /// The point may go on to the address without a jump.
     pub falls: bool,
@@ -56,7 +56,7 @@ pub struct Code {
 }
 
 /// What is done at a point.
-#[derive(Clone, Copy, PartialEq, Eq, Debug)]
+#[derive(Clone, Copy)]
 pub enum Deed {
     /// What the row of its address does.
     Row,
@@ -69,7 +69,7 @@ pub enum Deed {
 
 /// A point: the number of the root of its segment, how many backward transfers were made, its stack by number, and the place of its code. Its edges begin at a
 /// place and end where the next point's begin.
-#[derive(Clone, Copy, PartialEq, Eq, Debug)]
+#[derive(Clone, Copy)]
 pub struct Point {
     pub root: u32,
     pub turns: u32,
@@ -80,7 +80,7 @@ pub struct Point {
 }
 
 /// Where a segment begins: the place of its first point, and the head with its stack, none at the entry.
-#[derive(Clone, Copy, PartialEq, Eq, Debug)]
+#[derive(Clone, Copy)]
 pub struct Root {
     pub place: u32,
     pub head: Option<program_points::Root>,

@@ -34,7 +34,7 @@ pub enum Cause {
 }
 
 /// What a check of a log says.
-#[derive(Clone, Copy, PartialEq, Eq, Debug)]
+#[derive(Clone, Copy)]
 pub enum Checked {
     /// The log is a refutation of the clauses.
     Yes,

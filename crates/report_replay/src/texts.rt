@@ -20,7 +20,7 @@ use std::alloc::{AllocError, Global};
 use table_run::Ending;
 
 /// What is answered to a report.
-#[derive(Drop, Debug)]
+#[derive(Drop)]
 pub struct Replay {
     /// The exit status: [`DONE`] where the run ends as is named, else [`TEXT_REFUSED`].
     pub status: u8,

@@ -4,7 +4,7 @@ ghost use Rattle.rv_decode.specs.Halves.{IsOfHalf, IsOfHalf-prop};
 use crate::plain::Plain;
 
 /// An instruction of a word, or of a halfword, of which it is the expansion's (chapter 16).
-#[derive(Clone, Copy, PartialEq, Eq, Debug)]
+#[derive(Clone, Copy)]
 pub struct Insn {
     /// What it does but for its length.
     pub plain: Plain,

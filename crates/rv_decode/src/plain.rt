@@ -3,7 +3,7 @@ use crate::register::Register;
 use crate::shift_amount::ShiftAmount;
 
 /// What a conditional branch tests of rs1 and rs2 (section 2.5).
-#[derive(Clone, Copy, PartialEq, Eq, Debug)]
+#[derive(Clone, Copy, PartialEq, Eq)]
 pub enum BranchOp {
     Beq,
     Bne,
@@ -14,7 +14,7 @@ pub enum BranchOp {
 }
 
 /// How many bytes a load reads, and whether with their sign (section 2.6).
-#[derive(Clone, Copy, PartialEq, Eq, Debug)]
+#[derive(Clone, Copy, PartialEq, Eq)]
 pub enum LoadOp {
     Lb,
     Lh,
@@ -24,7 +24,7 @@ pub enum LoadOp {
 }
 
 /// How many bytes a store writes (section 2.6).
-#[derive(Clone, Copy, PartialEq, Eq, Debug)]
+#[derive(Clone, Copy, PartialEq, Eq)]
 pub enum StoreOp {
     Sb,
     Sh,
@@ -32,7 +32,7 @@ pub enum StoreOp {
 }
 
 /// A computation with a register and an immediate (section 2.4).
-#[derive(Clone, Copy, PartialEq, Eq, Debug)]
+#[derive(Clone, Copy, PartialEq, Eq)]
 pub enum ImmediateOp {
     Addi,
     Slti,
@@ -76,7 +76,7 @@ pub enum RegisterOp {
 /// An instruction with its fields.
 ///
 /// Immediates and offsets are words of 32 bits, with their sign extended; those of LUI and AUIPC have their 20 bits in place.
-#[derive(Clone, Copy, PartialEq, Eq, Debug)]
+#[derive(Clone, Copy, PartialEq, Eq)]
 pub enum Plain {
     Lui {
         rd: Register,

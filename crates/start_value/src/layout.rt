@@ -7,7 +7,7 @@ ghost use Rattle.word_spec.specs.Memory.{endian};
 ghost use Rattle.start_value.specs.Starts.{layout_of, profile_in};
 
 /// The instructions of ARM state that have rows: those of version 4, with BX, and with BX and CLZ.
-#[derive(Clone, Copy, PartialEq, Eq, Debug)]
+#[derive(Clone, Copy)]
 pub enum Profile {
     V4,
     V4T,
@@ -30,7 +30,7 @@ impl Profile {
 }
 
 /// The machine of a text: RV32IM, or ARM in a byte order and a profile.
-#[derive(Clone, Copy, PartialEq, Eq, Debug)]
+#[derive(Clone, Copy)]
 pub enum Layout {
     Rv32 {
         /// Whether it has the compressed instructions (RV32IMC).

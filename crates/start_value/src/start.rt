@@ -1,7 +1,7 @@
 //! Starts of runs.
 
 /// The state from which a run begins, and its choices.
-#[derive(Drop, Debug)]
+#[derive(Drop)]
 pub struct Start {
     /// The registers in order: x1 to x31, or r0 to r14.
     pub regs: Vec<u32>,

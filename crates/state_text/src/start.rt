@@ -25,7 +25,7 @@ pub enum Event {
 }
 
 /// How a segment of a frame fails, whose runs are cut at heads and step over contracts.
-#[derive(Clone, Copy, PartialEq, Eq, Debug)]
+#[derive(Clone, Copy)]
 pub enum FrameEvent {
     /// As a run of the tables may; an assert line that is no invariant.
     OfStep(Event),
@@ -34,7 +34,7 @@ pub enum FrameEvent {
 }
 
 /// The ending that a report names, with the address and the number of its step.
-#[derive(Clone, Copy, PartialEq, Eq, Debug)]
+#[derive(Clone, Copy)]
 pub enum NamedEnding {
     /// An event.
     FailsBy { event: Event, at: u32, step: u64 },
@@ -43,7 +43,7 @@ pub enum NamedEnding {
 }
 
 /// A head state from which a run begins, and its choices.
-#[derive(Drop, Debug)]
+#[derive(Drop)]
 pub struct HeadStart {
     /// The address of the head.
     pub at: u32,
@@ -54,7 +54,7 @@ pub struct HeadStart {
 }
 
 /// What a contract step is given, which a run makes in place of the calls of a contract's function.
-#[derive(Drop, Debug)]
+#[derive(Drop)]
 pub struct CallState {
     /// The number of the step.
     pub step: u64,
@@ -69,7 +69,7 @@ pub struct CallState {
 }
 
 /// A start with the ending that its report names.
-#[derive(Drop, Debug)]
+#[derive(Drop)]
 pub struct StateText {
     pub named: NamedEnding,
     pub start: Start,

@@ -15,7 +15,7 @@ use start_value::Layout;
 use std::alloc::{AllocError, Global};
 
 /// What a line of the grammar says. A choice above 3 is taken for 4, which no line may have.
-#[derive(Clone, Copy, PartialEq, Eq, Debug)]
+#[derive(Clone, Copy)]
 pub enum StateLine {
     Named(NamedEnding),
     Machine,

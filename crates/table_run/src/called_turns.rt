@@ -19,7 +19,7 @@ use state_text::CallState;
 use std::alloc::{AllocError, Global};
 
 /// Where a run stands.
-#[derive(Clone, Copy, PartialEq, Eq, Debug)]
+#[derive(Clone, Copy, PartialEq, Eq)]
 pub(crate) enum Stand {
     /// At a row.
     Row,

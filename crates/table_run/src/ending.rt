@@ -17,7 +17,7 @@ pub enum EntryFault {
 }
 
 /// What a run comes to, with the address and the number of the last step that was made; steps are counted from 0.
-#[derive(Clone, Copy, PartialEq, Eq, Debug)]
+#[derive(Clone, Copy)]
 pub enum Ending {
     /// The function returned, and each ensure line is true.
     Exit { at: u32, step: u64 },
@@ -30,7 +30,7 @@ pub enum Ending {
 }
 
 /// What a step comes to; the state and the stack are those that it leaves.
-#[derive(Clone, Copy, PartialEq, Eq, Debug)]
+#[derive(Clone, Copy)]
 pub(crate) enum StepEnd {
     /// An event.
     Stops(Event),
@@ -41,7 +41,7 @@ pub(crate) enum StepEnd {
 }
 
 /// What a run of a frame comes to, with the address and the number of the last step that was made; steps are counted from 0, and the arrival at a head is one.
-#[derive(Clone, Copy, PartialEq, Eq, Debug)]
+#[derive(Clone, Copy)]
 pub enum FrameEnding {
     /// The function returned, and each ensure line is true.
     Exit {
@@ -72,7 +72,7 @@ pub enum FrameEnding {
 }
 
 /// What a step comes to in a frame; the state and the stack are those that it leaves.
-#[derive(Clone, Copy, PartialEq, Eq, Debug)]
+#[derive(Clone, Copy)]
 pub(crate) enum FrameStepEnd {
     /// An event.
     Halts(FrameEvent),
@@ -137,14 +137,14 @@ pub enum CalledEnding {
 }
 
 /// What a run comes to, and whether one of its steps was a contract step.
-#[derive(Clone, Copy, PartialEq, Eq, Debug)]
+#[derive(Clone, Copy)]
 pub struct CalledRun {
     pub called: bool,
     pub ending: CalledEnding,
 }
 
 /// What a step comes to in a frame that steps over contracts; the state and the stack are those that it leaves.
-#[derive(Clone, Copy, PartialEq, Eq, Debug)]
+#[derive(Clone, Copy)]
 pub(crate) enum CalledStepEnd {
     /// An event.
     Halts(CalledEvent),

@@ -34,7 +34,7 @@ use std::collections::BTreeSet;
 
 /// What a run from a model's state comes to, and the bytes of the model's memory that the require lines and the run read, but for those that the file gives and
 /// for those that are 0, by rising addresses.
-#[derive(Drop, Debug)]
+#[derive(Drop)]
 pub struct Traced {
     pub ending: Ending,
     pub bytes: Vec<(u32, u8)>,

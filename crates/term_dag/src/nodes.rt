@@ -8,12 +8,12 @@ ghost use Rattle.term_dag.specs.Made.{moved, operands};
 use bil_ast::BinaryOp;
 
 /// The place of a node in a `Dag`.
-#[derive(Clone, Copy, Debug, PartialEq, Eq, Hash)]
+#[derive(Clone, Copy, PartialEq, Eq, Hash)]
 pub struct Term(pub u32);
 
 /// A node: an input, a constant, or an operator on terms. Widths are in bits, 1 to 64; loads and stores are of 1 to 8 bytes. Inputs are named by parts: a part
 /// is a state that is given, with registers, flags and a memory of its own. Part 0 is what a program has at entry.
-#[derive(Clone, Copy, Debug, PartialEq, Eq, Hash)]
+#[derive(Clone, Copy, PartialEq, Eq, Hash)]
 pub enum Node {
     /// A register of a part, of 32 bits.
     Register {

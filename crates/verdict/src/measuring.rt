@@ -17,7 +17,7 @@ use std::alloc::{AllocError, Global};
 use unroller::{price, unroll};
 
 /// The price of an unrolled program, by the budget.
-#[derive(Clone, Copy, PartialEq, Eq, Debug)]
+#[derive(Clone, Copy)]
 pub enum Weighed {
     Above(u128),
     Within(u128),

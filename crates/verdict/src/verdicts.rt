@@ -16,7 +16,7 @@ pub enum Answered {
 }
 
 /// The budget that does not suffice for any question, with what shows it.
-#[derive(Clone, Copy, PartialEq, Eq, Debug)]
+#[derive(Clone, Copy)]
 pub enum Exceeded {
     /// There are more points than the budget, of which so many were found.
     Points { count: u64 },
