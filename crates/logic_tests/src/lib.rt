@@ -11,3 +11,5 @@ mod error_texts;
 mod lists;
 #[cfg(test)]
 mod memory;
+#[cfg(test)]
+mod refusals;

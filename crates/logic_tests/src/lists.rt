@@ -1,7 +1,8 @@
 //! Lists with loops, which no machine lifts, and a sum: sizes, copies, texts, types and runs.
 ghost use Rattle.std.specs.Prelude.{◌≡◌, true, IfOk};
 ghost use Rattle.machine_spec.specs.BilCounts.{list_names_only, names_only};
-ghost use Rattle.bil_ast.specs.Views.{expression, statements};
+ghost use Rattle.machine_spec.specs.Bil.{Empty};
+ghost use Rattle.bil_ast.specs.Views.{expression, statement, statements};
 ghost use Rattle.bil_eval.specs.Views.{is_machine};
 
 use bil_ast::{Bank, BilType, BinaryOp, CastKind, Exp, Local, Stmt, Var, Width};
@@ -49,6 +50,26 @@ fn one_more(alloc: Global) -> Result<Vec<Stmt>, AllocError>
 {
     let sum = sum(alloc, Word::new(32, 1))?;
     let list = vec![in alloc; Stmt::Assign(X10, sum)]?;
+    Ok(list)
+}
+
+/// Adds 1 to `x10` while it is below a word.
+fn counts_to(alloc: Global, word: Word) -> Result<Stmt, AllocError>
+    ensures { IfOk result (λ s. list_names_only (statement s Empty) is_machine ≡ true) }
+{
+    let below = Exp::binary(alloc, BinaryOp::Less, Exp::Var(X10), Exp::Constant(word))?;
+    let body = one_more(alloc)?;
+    Ok(Stmt::repeat(below, body))
+}
+
+/// A jump, and behind it two loops of three turns each from 0.
+fn two_counts(alloc: Global) -> Result<Vec<Stmt>, AllocError>
+    ensures { IfOk result (λ list. list_names_only (statements list.items) is_machine ≡ true) }
+{
+    let first = counts_to(alloc, Word::new(32, 3))?;
+    let second = counts_to(alloc, Word::new(32, 6))?;
+    let jump = Stmt::Jump(Exp::Constant(Word::new(32, 4)));
+    let list = vec![in alloc; jump, first, second]?;
     Ok(list)
 }
 
@@ -179,5 +200,11 @@ fn turns_are_counted(rt: HostRuntime) -> Result<(), Fail> {
         Err(EvalFault::OutOfTurns)
     );
     assert_eq!(rt; outcome(rt.alloc(), &list, 7, 2), Ok((End::Next, 7)));
+    let list = two_counts(rt.alloc())?;
+    assert_eq!(rt; outcome(rt.alloc(), &list, 2, 0), Ok((End::Jump(4), 6)));
+    assert_eq!(rt;
+        outcome(rt.alloc(), &list, 0, 0),
+        Err(EvalFault::OutOfTurns)
+    );
     Ok(())
 }
