@@ -1,12 +1,8 @@
-//! The judgement of a report by running it again: its text is read, and the run from its state has to end as the text says.
+//! What the judgements of reports have in common: a text is read, where the file gives some bytes; and the texts of answers.
 #![tactic(auto)]
 
-mod comparing;
 mod reading;
-mod replays;
-mod running;
 mod texts;
 
 pub use reading::{Reading, known_line, read_text};
-pub use replays::{REPORT_LIMIT, replay};
-pub use texts::{Replay, false_require, push_found, refused, too_large, unaligned};
+pub use texts::{REPORT_LIMIT, Replay, false_require, push_found, refused, too_large, unaligned};

@@ -1,28 +1,29 @@
 //! The texts of answers.
-ghost use Rattle.std.specs.Prelude.{◌≡◌, ℕ, ◌+◌, ◌++◌, ◌≤◌, List, Some, None, true, false, IfOk, OnOk, codes};
+ghost use Rattle.std.specs.Prelude.{◌≡◌, ℕ, ◌++◌, List, Some, true, false, IfOk, OnOk, codes};
 ghost use Rattle.bilv_spec.specs.Run.{Program};
-ghost use Rattle.machine_spec.specs.Endings.{Start, named_step};
-ghost use Rattle.machine_spec.specs.StateText.{Layout, StateRefused, last_step};
+ghost use Rattle.machine_spec.specs.Endings.{Start};
+ghost use Rattle.machine_spec.specs.StateText.{Layout, StateRefused};
 ghost use Rattle.bilv_spec.specs.Reports as reports;
 ghost use Rattle.machine_spec.specs.Endings as endings;
 ghost use Rattle.bilv_spec.specs.Reports.{found_words};
 ghost use Rattle.word_spec.specs.Texts.{line, joined};
 ghost use Rattle.call_spec.specs.Calls.{plain_answer};
-ghost use Rattle.bilv_spec.specs.Replays.{sized_answer, told_answer, start_answer, require_answer, ending_answer, state_fault_words, bound_of};
-ghost use Rattle.state_text.specs.Starts.{named_of};
+ghost use Rattle.bilv_spec.specs.Replays.{sized_answer, told_answer, start_answer, require_answer, state_fault_words};
 ghost use Rattle.state_text.specs.Readings.{fault_of};
 ghost use Rattle.table_run.specs.Endings.{found_of};
 
-use crate::comparing::is_found;
-use exit_status::{DONE, TEXT_REFUSED};
+use exit_status::TEXT_REFUSED;
 use state_text::{NamedEnding, StateFault, push_ending, push_number, push_step};
 use std::alloc::{AllocError, Global};
 use table_run::Ending;
 
+/// The greatest length of a report's text, in bytes.
+pub const REPORT_LIMIT: usize = 268_435_456;
+
 /// What is answered to a report.
 #[derive(Drop)]
 pub struct Replay {
-    /// The exit status: [`DONE`] where the run ends as is named, else [`TEXT_REFUSED`].
+    /// The exit status: `DONE` where the run ends as is named, else [`TEXT_REFUSED`].
     pub status: u8,
     /// The text that is printed, with its line feed.
     pub text: Vec<u8>,
@@ -114,31 +115,6 @@ pub fn false_require(alloc: Global, line: u32) -> Result<Replay, AllocError>
     })
 }
 
-/// The answer where the run ends as is named.
-fn replayed(alloc: Global, named: NamedEnding) -> Result<Replay, AllocError>
-    ensures { (found : reports.Found) → IfOk result (λ r. plain_answer r.status r.text.items ≡ ending_answer true (named_of named) found) }
-{
-    let mut out = Vec::new(alloc);
-    out.extend_from_slice(b"replayed ")?;
-    push_ending(alloc, &mut out, named)?;
-    out.push(b'\n')?;
-    Ok(Replay {
-        status: DONE,
-        text: out,
-    })
-}
-
-/// How many backward transfers the run of a named ending is allowed: those of its bound, and without one more than there are steps.
-fn turns_within(named: NamedEnding) -> u64
-    requires { named_step (named_of named) ≤ last_step }
-    ensures { result ≡ reports.turns_within (named_step (named_of named)) (bound_of (named_of named)) }
-{
-    match named {
-        NamedEnding::FailsBy { step, .. } => step + 1,
-        NamedEnding::UnknownBy { k, .. } => k,
-    }
-}
-
 /// Appends what a run came to that was allowed `k` backward transfers. What an `Err` leaves is open.
 ///
 /// # Errors
@@ -170,36 +146,4 @@ pub fn push_found(
             Ok(())
         }
     }
-}
-
-/// The answer where the run comes to something else than is named.
-fn found_other(alloc: Global, named: NamedEnding, ending: Ending) -> Result<Replay, AllocError>
-    requires { named_step (named_of named) ≤ last_step }
-    ensures { IfOk result (λ r. plain_answer r.status r.text.items ≡ ending_answer false (named_of named) (found_of ending)) }
-{
-    let mut out = Vec::new(alloc);
-    out.extend_from_slice(b"replay: named ")?;
-    push_ending(alloc, &mut out, named)?;
-    out.extend_from_slice(b", found ")?;
-    push_found(alloc, &mut out, turns_within(named), ending)?;
-    out.push(b'\n')?;
-    Ok(Replay {
-        status: TEXT_REFUSED,
-        text: out,
-    })
-}
-
-/// The answer by what the run of a named ending came to.
-pub(crate) fn compared(
-    alloc: Global,
-    named: NamedEnding,
-    ending: Ending,
-) -> Result<Replay, AllocError>
-    requires { named_step (named_of named) ≤ last_step }
-    ensures { IfOk result (λ r. plain_answer r.status r.text.items ≡ require_answer None (named_of named) (found_of ending)) }
-{
-    if is_found(named, ending) {
-        return replayed(alloc, named);
-    }
-    found_other(alloc, named, ending)
 }
