@@ -23,4 +23,6 @@ mod searches;
 #[cfg(test)]
 mod starts;
 #[cfg(test)]
+mod stretches;
+#[cfg(test)]
 mod studies;
