@@ -201,13 +201,10 @@ impl Exp {
                 address,
                 order,
                 width,
-            } => Exp::load(
-                alloc,
-                memory.copy(alloc)?,
-                address.copy(alloc)?,
-                *order,
-                *width,
-            ),
+            } => {
+                let (memory, address) = both(memory.copy(alloc), address.copy(alloc))?;
+                Exp::load(alloc, memory, address, *order, *width)
+            }
             Exp::Store {
                 memory,
                 address,
@@ -215,44 +212,48 @@ impl Exp {
                 width,
                 value,
             } => {
-                Exp::store(
-                    alloc,
-                    memory.copy(alloc)?,
-                    address.copy(alloc)?,
-                    *order,
-                    *width,
-                    value.copy(alloc)?,
-                )
+                let (memory, address) = both(memory.copy(alloc), address.copy(alloc))?;
+                Exp::store(alloc, memory, address, *order, *width, value.copy(alloc)?)
             }
-            Exp::Binary(op, left, right) => Exp::binary(
-                alloc,
-                *op,
-                left.copy(alloc)?,
-                right.copy(alloc)?,
-            ),
+            Exp::Binary(op, left, right) => {
+                let (left, right) = both(left.copy(alloc), right.copy(alloc))?;
+                Exp::binary(alloc, *op, left, right)
+            }
             Exp::Unary(op, word) => Exp::unary(alloc, *op, word.copy(alloc)?),
             Exp::Cast(kind, width, word) => Exp::cast(alloc, *kind, *width, word.copy(alloc)?),
-            Exp::Let(local, value, body) => Exp::bind(
-                alloc,
-                *local,
-                value.copy(alloc)?,
-                body.copy(alloc)?,
-            ),
+            Exp::Let(local, value, body) => {
+                let (value, body) = both(value.copy(alloc), body.copy(alloc))?;
+                Exp::bind(alloc, *local, value, body)
+            }
             Exp::Unknown(found) => Ok(Exp::Unknown(*found)),
             Exp::Choose {
                 condition,
                 when_true,
                 when_false,
-            } => Exp::choose(
-                alloc,
-                condition.copy(alloc)?,
-                when_true.copy(alloc)?,
-                when_false.copy(alloc)?,
-            ),
+            } => {
+                let (when_true, when_false) = both(when_true.copy(alloc), when_false.copy(alloc))?;
+                Exp::choose(alloc, condition.copy(alloc)?, when_true, when_false)
+            }
             Exp::Extract { hi, lo, word } => Exp::extract(alloc, *hi, *lo, word.copy(alloc)?),
-            Exp::Concat(high, low) => Exp::concat(alloc, high.copy(alloc)?, low.copy(alloc)?),
+            Exp::Concat(high, low) => {
+                let (high, low) = both(high.copy(alloc), low.copy(alloc))?;
+                Exp::concat(alloc, high, low)
+            }
         }
     }
+}
+
+/// Two expressions, if both were made.
+fn both(
+    left: Result<Exp, AllocError>,
+    right: Result<Exp, AllocError>,
+) -> Result<(Exp, Exp), AllocError>
+    ensures left { IfOk result (λ two. left ≡ Ok two.0) }
+    ensures right { IfOk result (λ two. right ≡ Ok two.1) }
+{
+    let left = left?;
+    let right = right?;
+    Ok((left, right))
 }
 
 /// The size of a node over two operands of these sizes; 2^64 - 1 where it is more.
