@@ -6,7 +6,7 @@ use Rattle.call_spec.specs.Framed.{Question, EntryQuestion, FailQuestion, StepQu
 use Rattle.call_spec.specs.Calls.{Budget, Options}
 use Rattle.word_spec.specs.Profiles.{Profile, V4, V4T, V5}
 use Rattle.command_spec.specs.Commands as of
-use Rattle.clap.specs.Words.{App, Row, Rule, Text, app_of, fault_of, first_of, new_app, new_rule, one_of, subcommand_of, with_rule, with_subcommand}
+use Rattle.clap.specs.Words.{App, Row, Rule, Text, app_of, fault_of, first_of, new_app, new_rule, one_of, subcommand_of, with_rule}
 use Rattle.clap.specs.Simple.{new_shape}
 use Rattle.clap.specs.Walk.{is_empty}
 use Rattle.clap.specs.ValueTests.{is_unsigned_in}
@@ -25,25 +25,29 @@ file_argument name = record (new_rule name) { required = true }
 abbrev pub number_argument : Text → (low high : ℕ) → Rule
 number_argument name low high = record (new_rule name) { required = true; parser = Some (vp.Unsigned low high) }
 
+-- an option, by its name
+abbrev pub named_option : Text → Rule
+named_option name = record (new_rule name) { long = Some name }
+
 -- an option whose value is a whole number from low to high
 abbrev pub number_option : Text → (low high : ℕ) → (default : Text) → Rule
-number_option name low high default = record (new_rule name) { long = Some name; parser = Some (vp.Unsigned low high); defaults = default ∷ [] }
+number_option name low high default = record (named_option name) { parser = Some (vp.Unsigned low high); defaults = default ∷ [] }
 
 -- the required option that names a question
 abbrev pub question_option : Rule
-question_option = record (new_rule (codes "question")) { long = Some (codes "question"); required = true }
+question_option = record (named_option (codes "question")) { required = true }
 
 -- the option that names a frame
 abbrev pub frame_option : Rule
-frame_option = record (new_rule (codes "frame")) { long = Some (codes "frame") }
+frame_option = named_option (codes "frame")
 
 -- the option that names ARM's profile
 abbrev pub arm_option : Rule
-arm_option = record (new_rule (codes "arm")) { long = Some (codes "arm"); defaults = codes "v4" ∷ [] }
+arm_option = record (named_option (codes "arm")) { defaults = codes "v4" ∷ [] }
 
 -- the flag of compressed instructions
 abbrev pub rvc_option : Rule
-rvc_option = record (new_rule (codes "rvc")) { long = Some (codes "rvc"); action = Some SetTrue }
+rvc_option = record (named_option (codes "rvc")) { action = Some SetTrue }
 
 -- the options for the four budgets
 abbrev pub budgets : List Rule
@@ -118,19 +122,6 @@ check = command_with (codes "check") (file_argument (codes "certificate") ∷ []
 abbrev pub selfrun : App
 selfrun = command_with (codes "selfrun") (number_argument (codes "seed") 0 2147483647 ∷ number_argument (codes "count") 1 16000 ∷ [])
 
--- commands, by what they are over
-abbrev pub over_programs : List App
-over_programs = verify ∷ lift ∷ graph ∷ upgrade ∷ []
-
-abbrev pub over_questions : List App
-over_questions = smt ∷ cert ∷ check ∷ model ∷ []
-
-abbrev pub others : List App
-others = replay ∷ equal ∷ differ ∷ selfrun ∷ []
-
-abbrev pub with_subcommands : App → List App → App
-with_subcommands = fold (λ a b. with_subcommand a b.top)
-
 -- the program: it needs one of its subcommands
 unfoldable pub bilv_app : App
 bilv_app = record {
@@ -138,10 +129,14 @@ bilv_app = record {
   subs = verify.top ∷ lift.top ∷ graph.top ∷ upgrade.top ∷ smt.top ∷ cert.top ∷ check.top ∷ model.top ∷ replay.top ∷ equal.top ∷ differ.top ∷ selfrun.top ∷ [];
 }
 
+-- a command of the code shares no argument with its subcommands
+abbrev pub SharesNone : Command → Type 0
+SharesNone c = (out-Command c).has_globals ≡ false
+
 -- a command of the code is this one to `clap`, and shares no argument with its subcommands
 pub record IsMade (a : App) (c : Command) : Type 0 where
   pub app : app_of c ≡ a
-  pub globals : (out-Command c).has_globals ≡ false
+  pub globals : SharesNone c
 
 -- ---- what the words ask for
 

@@ -5,6 +5,7 @@ mod command;
 pub mod found;
 mod program;
 mod reader;
+mod table;
 mod values;
 
 pub use call_form::{Asked, Budget, Kind};

@@ -1,9 +1,11 @@
 //! What the program's command line may hold, as `clap` is told.
 ghost use Rattle.std.specs.Prelude.{◌≡◌, IfOk, false};
-ghost use Rattle.clap.specs.Words.{App, rule_of};
-ghost use Rattle.command_line.specs.Lines.{IsMade, arm_option, asking, asking_frame, bilv_app, budgets, check, differ, equal, file_argument, frame_option, model, number_argument, number_option, others, over_elf, over_pair, over_program, over_programs, over_questions, question_option, replay, rvc_option, selfrun, verify, with_rules, with_subcommands};
+ghost use Rattle.clap.specs.Words.{app_of, rule_of};
+ghost use Rattle.command_line.specs.Lines.{IsMade, SharesNone, arm_option, bilv_app, file_argument, named_option, number_argument, number_option, question_option, rvc_option};
+ghost use Rattle.command_line.specs.Tables.{app_in, rule_in, with_argument, with_arguments, with_row, with_rows};
 
-use call_form::{CONFLICTS, POINTS, Range, SIZE, UNROLL};
+use crate::table::{Argument, Subcommand, subcommands};
+use call_form::Range;
 use clap::builder::{ArgAction, ValueParser};
 use clap::{Arg, Command};
 use std::alloc::{AllocError, Global};
@@ -21,9 +23,15 @@ fn number<'a>(alloc: Global, name: &'a str, low: u64, high: u64) -> Arg<'a>
     ensures rule { rule_of result ≡ number_argument name.entry.now low high }
     ensures local { result.global ≡ false }
 {
-    Arg::new(alloc, name)
-        .required(true)
-        .value_parser(ValueParser::unsigned(low, high))
+    file(alloc, name).value_parser(ValueParser::unsigned(low, high))
+}
+
+// An option, by its name.
+fn named<'a>(alloc: Global, name: &'a str) -> Arg<'a>
+    ensures rule { rule_of result ≡ named_option name.entry.now }
+    ensures local { result.global ≡ false }
+{
+    Arg::new(alloc, name).long(name)
 }
 
 // An option whose value is a whole number in a range.
@@ -31,8 +39,7 @@ fn budget<'a>(alloc: Global, name: &'a str, range: Range) -> Arg<'a>
     ensures rule { rule_of result ≡ number_option name.entry.now range.low range.high range.written.now }
     ensures local { result.global ≡ false }
 {
-    Arg::new(alloc, name)
-        .long(name)
+    named(alloc, name)
         .value_parser(ValueParser::unsigned(range.low, range.high))
         .default_value(range.written)
 }
@@ -42,15 +49,7 @@ fn question<'a>(alloc: Global) -> Arg<'a>
     ensures rule { rule_of result ≡ question_option }
     ensures local { result.global ≡ false }
 {
-    Arg::new(alloc, "question").long("question").required(true)
-}
-
-// The option that names a frame.
-fn frame<'a>(alloc: Global) -> Arg<'a>
-    ensures rule { rule_of result ≡ frame_option }
-    ensures local { result.global ≡ false }
-{
-    Arg::new(alloc, "frame").long("frame")
+    named(alloc, "question").required(true)
 }
 
 // The option that names ARM's profile.
@@ -58,7 +57,7 @@ fn arm<'a>(alloc: Global) -> Arg<'a>
     ensures rule { rule_of result ≡ arm_option }
     ensures local { result.global ≡ false }
 {
-    Arg::new(alloc, "arm").long("arm").default_value("v4")
+    named(alloc, "arm").default_value("v4")
 }
 
 // The flag of compressed instructions.
@@ -66,160 +65,88 @@ fn rvc<'a>(alloc: Global) -> Arg<'a>
     ensures rule { rule_of result ≡ rvc_option }
     ensures local { result.global ≡ false }
 {
-    Arg::new(alloc, "rvc")
-        .long("rvc")
-        .action(ArgAction::SetTrue)
+    named(alloc, "rvc").action(ArgAction::SetTrue)
 }
 
-// The command with the four options for budgets.
-fn with_budgets<'a>(alloc: Global, command: Command<'a>) -> Result<Command<'a>, AllocError>
-    ensures { IfOk result (λ c. (a : App) → IsMade a command.entry → IsMade (with_rules a budgets) c) }
+// What `clap` is told of an argument.
+fn told<'a>(alloc: Global, argument: &Argument) -> Arg<'a>
+    ensures rule { rule_of result ≡ rule_in argument.now }
+    ensures local { result.global ≡ false }
 {
-    let command = command
-        .arg(budget(alloc, "unroll", UNROLL))?
-        .arg(budget(alloc, "points", POINTS))?
-        .arg(budget(alloc, "size", SIZE))?
-        .arg(budget(alloc, "conflicts", CONFLICTS))?;
+    match *argument {
+        Argument::File(name) => file(alloc, name),
+        Argument::Number(name, low, high) => number(alloc, name, low, high),
+        Argument::Budget(name, range) => budget(alloc, name, range),
+        Argument::Question => question(alloc),
+        Argument::Frame => named(alloc, "frame"),
+        Argument::Arm => arm(alloc),
+        Argument::Compressed => rvc(alloc),
+    }
+}
+
+// The command with one argument more.
+fn with_argument<'a>(
+    alloc: Global,
+    command: Command<'a>,
+    argument: &Argument,
+) -> Result<Command<'a>, AllocError>
+    requires { SharesNone command }
+    ensures { IfOk result (IsMade (with_argument (app_of command.entry) argument.now)) }
+{
+    command.arg(told(alloc, argument))
+}
+
+// The command with these arguments more.
+fn with_arguments<'a>(
+    alloc: Global,
+    mut command: Command<'a>,
+    arguments: &[Argument],
+) -> Result<Command<'a>, AllocError>
+    requires { SharesNone command }
+    ensures { IfOk result (IsMade (with_arguments (app_of command.entry) arguments.now)) }
+{
+    for argument in arguments {
+        command = with_argument(alloc, command, argument)?;
+    }
     Ok(command)
 }
 
-// A command over an ELF file.
-fn over_elf<'a>(alloc: Global, name: &'a str) -> Result<Command<'a>, AllocError>
-    ensures { IfOk result (IsMade (over_elf name.entry.now)) }
+// The command of a row.
+fn made<'a>(alloc: Global, row: &Subcommand) -> Result<Command<'a>, AllocError>
+    ensures { IfOk result (IsMade (app_in row.now)) }
 {
-    let command = Command::new(alloc, name)
-        .arg(file(alloc, "elf"))?
-        .arg(arm(alloc))?
-        .arg(rvc(alloc))?;
+    let mut command = Command::new(alloc, row.name);
+    for group in row.groups {
+        command = with_arguments(alloc, command, group)?;
+    }
     Ok(command)
 }
 
-// A command over an ELF file and notes.
-fn over_program<'a>(alloc: Global, name: &'a str) -> Result<Command<'a>, AllocError>
-    ensures { IfOk result (IsMade (over_program name.entry.now)) }
+// The command with the subcommand of one row more.
+fn with_row<'a>(
+    alloc: Global,
+    command: Command<'a>,
+    row: &Subcommand,
+) -> Result<Command<'a>, AllocError>
+    requires { SharesNone command }
+    ensures { IfOk result (IsMade (with_row (app_of command.entry) row.now)) }
 {
-    let command = Command::new(alloc, name)
-        .arg(file(alloc, "elf"))?
-        .arg(file(alloc, "notes"))?
-        .arg(arm(alloc))?
-        .arg(rvc(alloc))?;
-    Ok(command)
+    let added = made(alloc, row)?;
+    command.subcommand(added)
 }
 
-// A command over two ELF files, each with its notes, and links.
-fn over_pair<'a>(alloc: Global, name: &'a str) -> Result<Command<'a>, AllocError>
-    ensures { IfOk result (IsMade (over_pair name.entry.now)) }
+// The command with the subcommands of these rows more.
+fn with_rows<'a>(
+    alloc: Global,
+    mut command: Command<'a>,
+    rows: &[Subcommand],
+) -> Result<Command<'a>, AllocError>
+    requires { SharesNone command }
+    ensures { IfOk result (IsMade (with_rows (app_of command.entry) rows.now)) }
 {
-    let command = over_program(alloc, name)?
-        .arg(file(alloc, "other-elf"))?
-        .arg(file(alloc, "other-notes"))?
-        .arg(file(alloc, "links"))?;
-    Ok(command)
-}
-
-// A command that asks a question of an ELF file and notes.
-fn asking<'a>(alloc: Global, name: &'a str) -> Result<Command<'a>, AllocError>
-    ensures { IfOk result (IsMade (asking name.entry.now)) }
-{
-    let command = over_program(alloc, name)?.arg(question(alloc))?;
-    let command = with_budgets(alloc, command)?;
-    Ok(command)
-}
-
-// A command that asks a question of a frame.
-fn asking_frame<'a>(alloc: Global, name: &'a str) -> Result<Command<'a>, AllocError>
-    ensures { IfOk result (IsMade (asking_frame name.entry.now)) }
-{
-    let command = asking(alloc, name)?.arg(frame(alloc))?;
-    Ok(command)
-}
-
-fn verify<'a>(alloc: Global) -> Result<Command<'a>, AllocError>
-    ensures { IfOk result (IsMade verify) }
-{
-    let command = over_program(alloc, "verify")?;
-    let command = with_budgets(alloc, command)?;
-    Ok(command)
-}
-
-fn equal<'a>(alloc: Global) -> Result<Command<'a>, AllocError>
-    ensures { IfOk result (IsMade equal) }
-{
-    let command = over_pair(alloc, "equal")?;
-    let command = with_budgets(alloc, command)?;
-    Ok(command)
-}
-
-fn differ<'a>(alloc: Global) -> Result<Command<'a>, AllocError>
-    ensures { IfOk result (IsMade differ) }
-{
-    let command = over_pair(alloc, "differ")?.arg(file(alloc, "report"))?;
-    Ok(command)
-}
-
-fn model<'a>(alloc: Global) -> Result<Command<'a>, AllocError>
-    ensures { IfOk result (IsMade model) }
-{
-    let command = asking(alloc, "model")?.arg(file(alloc, "answer"))?;
-    Ok(command)
-}
-
-fn replay<'a>(alloc: Global) -> Result<Command<'a>, AllocError>
-    ensures { IfOk result (IsMade replay) }
-{
-    let command = over_program(alloc, "replay")?.arg(file(alloc, "state"))?;
-    Ok(command)
-}
-
-fn check<'a>(alloc: Global) -> Result<Command<'a>, AllocError>
-    ensures { IfOk result (IsMade check) }
-{
-    let command = Command::new(alloc, "check").arg(file(alloc, "certificate"))?;
-    Ok(command)
-}
-
-fn selfrun<'a>(alloc: Global) -> Result<Command<'a>, AllocError>
-    ensures { IfOk result (IsMade selfrun) }
-{
-    let command = Command::new(alloc, "selfrun")
-        .arg(number(alloc, "seed", 0, 2147483647))?
-        .arg(number(alloc, "count", 1, 16000))?;
-    Ok(command)
-}
-
-// A command with those over one program.
-fn with_programs<'a>(alloc: Global, command: Command<'a>) -> Result<Command<'a>, AllocError>
-    ensures { IfOk result (λ c. (a : App) → IsMade a command.entry → IsMade (with_subcommands a over_programs) c) }
-{
-    let command = command
-        .subcommand(verify(alloc)?)?
-        .subcommand(over_elf(alloc, "lift")?)?
-        .subcommand(over_program(alloc, "graph")?)?
-        .subcommand(over_program(alloc, "upgrade")?)?;
-    Ok(command)
-}
-
-// A command with those that ask a question or judge what answers one.
-fn with_questions<'a>(alloc: Global, command: Command<'a>) -> Result<Command<'a>, AllocError>
-    ensures { IfOk result (λ c. (a : App) → IsMade a command.entry → IsMade (with_subcommands a over_questions) c) }
-{
-    let command = command
-        .subcommand(asking_frame(alloc, "smt")?)?
-        .subcommand(asking_frame(alloc, "cert")?)?
-        .subcommand(check(alloc)?)?
-        .subcommand(model(alloc)?)?;
-    Ok(command)
-}
-
-// A command with those that replay, those that compare two functions, and the one that makes its own work.
-fn with_others<'a>(alloc: Global, command: Command<'a>) -> Result<Command<'a>, AllocError>
-    ensures { IfOk result (λ c. (a : App) → IsMade a command.entry → IsMade (with_subcommands a others) c) }
-{
-    let command = command
-        .subcommand(replay(alloc)?)?
-        .subcommand(equal(alloc)?)?
-        .subcommand(differ(alloc)?)?
-        .subcommand(selfrun(alloc)?)?;
+    for row in rows {
+        command = with_row(alloc, command, row)?;
+    }
     Ok(command)
 }
 
@@ -228,8 +155,5 @@ pub(crate) fn bilv<'a>(alloc: Global) -> Result<Command<'a>, AllocError>
     ensures { IfOk result (IsMade bilv_app) }
 {
     let command = Command::new(alloc, "bilv").subcommand_required(true);
-    let command = with_programs(alloc, command)?;
-    let command = with_questions(alloc, command)?;
-    let command = with_others(alloc, command)?;
-    Ok(command)
+    with_rows(alloc, command, subcommands())
 }

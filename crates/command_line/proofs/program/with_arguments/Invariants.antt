@@ -1,0 +1,10 @@
+use Rattle.std.proofs.Common.{◌≡◌, drop}
+use Rattle.clap.specs.Words.{app_of}
+use Rattle.command_line.specs.Lines.{SharesNone}
+use Rattle.command_line.specs.Tables.{with_arguments}
+use Rattle.command_line.proofs.program.with_arguments.Given as goal
+
+abbrev pub invariant-loop-argument : goal.invariant-loop-argument
+invariant-loop-argument l =
+    (with_arguments (app_of l.command) (drop l.argument-index l.arguments) ≡ with_arguments (app_of l.initial.command) l.arguments)
+    × SharesNone l.command

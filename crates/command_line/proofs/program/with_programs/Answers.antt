@@ -1,9 +1,0 @@
-use Rattle.command_line.proofs.Made.{made_sub}
-use Rattle.command_line.proofs.program.with_programs.Goals as goal
-
-pub returns : goal.returns
-returns c a made =
-    let first = made_sub made c.in_ok-verify.ensures c.in_ok-subcommand.ensures in
-    let second = made_sub first c.in_ok-over_elf.ensures c.in_ok-subcommand-2.ensures in
-    let third = made_sub second c.in_ok-over_program.ensures c.in_ok-subcommand-3.ensures in
-    made_sub third c.in_ok-over_program-2.ensures c.in_ok-command.ensures
