@@ -177,7 +177,13 @@ module _ (p : Program) (layout : Layout) (b : calls.Budget) where
     at n = run_is p k start refl n
 
     shown : IsWritten layout (points.is_known_at p) s → IsShown w f layout its
-    shown h = record { entry = h; head = λ x e. absurd (cc); calls = λ n x l. absurd (omega arith); calls_rise = λ i j d l m. absurd (omega arith) }
+    shown h = record {
+      entry = h;
+      head = λ x e. absurd (cc);
+      choices = λ n. absurd (n refl);
+      calls = λ n x l. absurd (omega arith);
+      calls_rise = λ i j d l m. absurd (omega arith);
+    }
 
     -- it gives contract steps nothing
     start_to : verdict.IsStart p (answers.start_in p layout s) → IsStart f k start
@@ -212,6 +218,12 @@ module _ (p : Program) (layout : Layout) (b : calls.Budget) where
 
     turn_from : (a n : ℕ) → EndsAs f k start (ByTurn a n) → answers.EndsAs p k (answers.start_in p layout s) (tables.Turned a n)
     turn_from a n (steps, e) = (steps, turned (tables.run p k (as_start start) steps) a n (sym (at steps) ∙ e))
+
+  -- none of its questions is about head states
+  not_step : {P : Type 0} (question : calls.Question) → as_question question ≡ FrameQuestions.StepQuestion → P
+  not_step calls.EntryQuestion h = absurd (cc)
+  not_step calls.FailQuestion h = absurd (cc)
+  not_step calls.TurnQuestion h = absurd (cc)
 
   abbrev Same : answers.Report → calls.Evidence → Type 0
   Same r e = IsRightReport w layout b (as_report r) (as_evidence e) ↔ answers.IsRightReport p layout b r e
@@ -302,6 +314,7 @@ module _ (p : Program) (layout : Layout) (b : calls.Budget) where
       none_below,
       due_to question h.1,
       record { of_question = (headless_clauses p k question proof.clauses).1 h.2.of_question; spent = h.2.spent },
+      not_step question,
     )),
   )
   right answers.HoldsReport (calls.RunOf s) = ((λ h. absurd h), (λ h. absurd h))

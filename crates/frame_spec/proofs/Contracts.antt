@@ -67,18 +67,19 @@ module _ (w : Whole) (start : endings.Start) where
           (turns + 1, (omega arith), went true t ∙ ap (λ z. tables.turn z turns m c.state.pc d) off ∙ ap (λ z. tables.Going (turns + 1) z d) number)
 
   -- a stretch goes from a step to a later one
-  rises : (e : State) (ch : ℕ → ℕ) {f : Frame} {m n : ℕ} {c z : Place} → Keeps w e ch f m c n z → m ≤ n
-  rises e ch {f} {m} here = let l : m ≤ m = omega arith in l
-  rises e ch (by_row d s n h) = let l = rises e ch h in omega arith
-  rises e ch (by_contract d z rank o x s call at is needs inner back h) = let l = rises e ch inner in let r = rises e ch h in omega arith
+  rises : (e : State) (ch : ℕ → ℕ) {floor : ℕ} {f : Frame} {m n : ℕ} {c z : Place} → Keeps w e ch floor f m c n z → m ≤ n
+  rises e ch {floor} {f} {m} here = let l : m ≤ m = omega arith in l
+  rises e ch (by_row d deep s n h) = let l = rises e ch h in omega arith
+  rises e ch (by_contract d z rank o x deep s call at is needs inner back h) = let l = rises e ch inner in let r = rises e ch h in omega arith
 
-  along : (bound : ℕ) {f : Frame} {m n : ℕ} {c z : Place} → Keeps w start.state start.choices f m c n z → n ≤ bound → At bound m c → At bound n z
+  along : (bound : ℕ) {floor : ℕ} {f : Frame} {m n : ℕ} {c z : Place} → Keeps w start.state start.choices floor f m c n z → n ≤ bound → At bound m c →
+      At bound n z
   along bound here l a = a
-  along bound {f} {m} {n} {c} (by_row d s g h) l a =
+  along bound {floor} {f} {m} {n} {c} (by_row d deep s g h) l a =
       let r = rises start.state start.choices h in
       let number : suc m ≡ m + 1 = omega arith in
       along bound h l (subst (λ i. At bound i d) number (one_on bound m c d (omega arith) a s))
-  along bound {f} {m} {n} {c} (by_contract d z rank o x s call at is needs inner back h) l a =
+  along bound {floor} {f} {m} {n} {c} (by_contract d z rank o x deep s call at is needs inner back h) l a =
       let r = rises start.state start.choices inner in
       let u = rises start.state start.choices h in
       let number : suc m ≡ m + 1 = omega arith in

@@ -35,16 +35,21 @@ module _ (w : Whole) (con : IsContracted w) (k : ℕ) where
   abbrev p : Program
   p = w.program
 
-  keeps_trans : (e : State) (ch : ℕ → ℕ) {f : Frame} {m n o : ℕ} {a b c : Place} → Keeps w e ch f m a n b → Keeps w e ch f n b o c → Keeps w e ch f m a o c
+  keeps_trans : (e : State) (ch : ℕ → ℕ) {floor : ℕ} {f : Frame} {m n o : ℕ} {a b c : Place} → Keeps w e ch floor f m a n b →
+      Keeps w e ch floor f n b o c → Keeps w e ch floor f m a o c
   keeps_trans e ch here g = g
-  keeps_trans e ch (by_row d s n h) g = by_row d s n (keeps_trans e ch h g)
-  keeps_trans e ch (by_contract d z rank o x s call at is needs inner back h) g =
-      by_contract d z rank o x s call at is needs inner back (keeps_trans e ch h g)
+  keeps_trans e ch (by_row d deep s n h) g = by_row d deep s n (keeps_trans e ch h g)
+  keeps_trans e ch (by_contract d z rank o x deep s call at is needs inner back h) g =
+      by_contract d z rank o x deep s call at is needs inner back (keeps_trans e ch h g)
+
+  -- what lies on a stack is no deeper than the stack
+  below_top : (top base : List ℕ) → length base ≤ length (top ++ base)
+  below_top top base = let n : length (top ++ base) ≡ length top + length base = length-append top base in omega arith
 
   -- what a function with a contract comes back with
   abbrev pub Returned : State → (ℕ → ℕ) → (rank : ℕ) → Contract → (m : ℕ) → Place → Type 0
   Returned e ch rank x m d =
-      (o : ℕ) × (z : Place) × Keeps w e ch (contract_frame w rank x) m d o z × ComesBack (contract_frame w rank x) x d z × Sound p every z.state
+      (o : ℕ) × (z : Place) × Keeps w e ch (length d.stack) (contract_frame w rank x) m d o z × ComesBack (contract_frame w rank x) x d z × Sound p every z.state
 
   -- from each place where its function begins behind a call, in a state that meets what it needs
   abbrev pub Returns : ℕ → Type 0
@@ -71,7 +76,7 @@ module _ (w : Whole) (con : IsContracted w) (k : ℕ) where
     pub sound : Sound p every spot.state
     pub within : Within f f.own t spot.state
     pub last : ℕ
-    pub kept : Keeps w e ch f m0 (lift base (record { state = t; stack = [] })) last (lift base spot)
+    pub kept : Keeps w e ch (length base) f m0 (lift base (record { state = t; stack = [] })) last (lift base spot)
     pub inside : is_outside f.own p.machine.endian t (stored_by_row (row_of_place f spot) spot.state) ≡ false
     pub out : State
     pub exits : step f.program t spot (ch last) ≡ Exits out
@@ -144,7 +149,7 @@ module _ (w : Whole) (con : IsContracted w) (k : ℕ) where
       aligned : IsAtPlace p.machine.narrow spot.state.pc
       within : Within f ow t spot.state
       last : ℕ
-      kept : Keeps w e ch f m0 (lift base root) last (lift base spot)
+      kept : Keeps w e ch (length base) f m0 (lift base root) last (lift base spot)
 
     abbrev Done : Type 0
     Done = Ended f t e base ch m0
@@ -305,8 +310,8 @@ module _ (w : Whole) (con : IsContracted w) (k : ℕ) where
               within = within_there;
               last = suc v.last;
               kept = keeps_trans e ch v.kept
-                  (subst (λ z. Keeps w e ch f v.last (lift base c) z (lift base d)) (let n : v.last + 1 ≡ suc v.last = omega arith in n)
-                  (by_row (lift base d) deep_step (same_call ∙ g) here));
+                  (subst (λ z. Keeps w e ch (length base) f v.last (lift base c) z (lift base d)) (let n : v.last + 1 ≡ suc v.last = omega arith in n)
+                  (by_row (lift base d) (below_top c.stack base) deep_step (same_call ∙ g) here));
             }
 
         -- a contract is called
@@ -518,13 +523,13 @@ module _ (w : Whole) (con : IsContracted w) (k : ℕ) where
               (self (i + 1))
               ∙ ap (after_step k entered.turns (i + 1) d.state.pc) steps_back
 
-          kept_back : Keeps w e ch f m0 (lift base root) back.0 (lift base back_place)
+          kept_back : Keeps w e ch (length base) f m0 (lift base root) back.0 (lift base back_place)
           kept_back =
               let same : z ≡ lift base back_place = ap (λ u. record { state = z.state; stack = u }) top_is.1 in
-              let inner = subst (λ n. Keeps w e ch (contract_frame w its_rank.0 x) n (lift base d) back.0 z)
+              let inner = subst (λ n. Keeps w e ch (length (d.stack ++ base)) (contract_frame w its_rank.0 x) n (lift base d) back.0 z)
               (let n : suc v.last ≡ v.last + 1 = omega arith in n) back.2 in
-              keeps_trans e ch v.kept (subst (λ u. Keeps w e ch f v.last (lift base c) back.0 u) same
-              (by_contract (lift base d) z its_rank.0 back.0 x deep_step (same_call ∙ g) found.1 its_rank.1 needs_met inner comes here))
+              keeps_trans e ch v.kept (subst (λ u. Keeps w e ch (length base) f v.last (lift base c) back.0 u) same
+              (by_contract (lift base d) z its_rank.0 back.0 x (below_top c.stack base) deep_step (same_call ∙ g) found.1 its_rank.1 needs_met inner comes here))
 
           settled : (turns : ℕ) → turns ≤ k → suc (suc i) ≤ turns * 4294967296 + z.state.pc →
               run f k gifted (suc (suc i)) ≡ Going turns (i + 1 + 1) back_place →
@@ -696,9 +701,9 @@ module _ (w : Whole) (con : IsContracted w) (k : ℕ) where
     came_back = (
       suc v.last,
       home,
-      subst (λ (u : Place). Keeps w e ch g m u (suc v.last) home) (ap (λ u. record { state = d.state; stack = u }) (sym stack))
-          (keeps_trans e ch v.kept (subst (λ n. Keeps w e ch g v.last leaving_at n home) (let n : v.last + 1 ≡ suc v.last = omega arith in n)
-          (by_row home last_step shorter here))),
+      subst (λ (u : Place). Keeps w e ch (length u.stack) g m u (suc v.last) home) (ap (λ u. record { state = d.state; stack = u }) (sym stack))
+          (keeps_trans e ch v.kept (subst (λ n. Keeps w e ch (length (to ∷ below)) g v.last leaving_at n home)
+          (let n : v.last + 1 ≡ suc v.last = omega arith in n) (by_row home (below_top v.spot.stack (to ∷ below)) last_step shorter here))),
       comes_back,
       subst (ArrivesIn (Sound p every)) (sym deep_words ∙ last_step) (step_in p every con.lawful e leaving_at (ch v.last) v.sound),
     )

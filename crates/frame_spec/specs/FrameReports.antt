@@ -233,10 +233,11 @@ pub record IsWrittenCall (w : Whole) (layout : Layout) (c : WrittenCall) : Type 
   pub bytes_rise : AreRising c.bytes
 
 -- What is shown can be written: bytes of the entry part that the file does not give, bytes of the head part that are not kept, and contract steps in rising
--- order.
+-- order. The choices of a segment stand in one part: where there is a head part, the entry part has none.
 pub record IsShown (w : Whole) (f : Frame) (layout : Layout) (s : Shown) : Type 0 where
   pub entry : IsWritten layout (is_known_at f.program) s.start
   pub head : (h : WrittenHead) → s.head ≡ Some h → IsWritten layout (is_kept_at f.program) h.start
+  pub choices : s.head ≢ None → s.start.choices ≡ []
   pub calls : All (IsWrittenCall w layout) s.calls
   pub calls_rise : AllPairs (λ x y. x.step < y.step) s.calls
 
@@ -266,7 +267,7 @@ IsRightReport w layout b PointsReport (Count n) = HasMore w b.unroll b.points ×
 IsRightReport w layout b SizeReport (Count n) = (¬ HasMore w b.unroll b.points) × IsWholePrice w b.unroll n × (b.size < n)
 IsRightReport w layout b ConflictsReport (SpentOn rank kind proof) =
     IsWithin w b × (rank ≤ last_rank w) × PassBelow w b.unroll rank × IsDue (frame_of w rank) b.unroll kind
-    × Spends (frame_of w rank) b.unroll kind b.conflicts proof
+    × Spends (frame_of w rank) b.unroll kind b.conflicts proof × (kind ≡ StepQuestion → has_heads (frame_of w rank) ≡ true)
 IsRightReport w layout b HoldsReport (PassedBy e) =
     IsWithin w b × (w.contracts ≡ []) × IsRight (entry_frame w) b.unroll Holds × IsPassed layout b.unroll (entry_frame w) e
 IsRightReport w layout b HoldsReport (Frames list) =

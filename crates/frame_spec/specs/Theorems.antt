@@ -96,22 +96,23 @@ pub record ComesBack (f : Frame) (x : Contract) (called back : Place) : Type 0 w
   pub bytes : (a : ℕ) → keeps_byte f x called.state a ≡ true → back.state.mem a ≡ called.state.mem a
 
 -- A stretch of a run of the tables within a frame, from a place at a step to a place at a later one: each call of a contract of lower rank on it meets what the
--- contract needs and comes back, and what runs in between is such a stretch within the contract's own frame.
-pub data Keeps (w : Whole) (entry : State) (choices : ℕ → ℕ) : Frame → (m : ℕ) → Place → (n : ℕ) → Place → Type 0 where
-  here : {f : Frame} {m : ℕ} {c : Place} → Keeps w entry choices f m c m c
-  by_row : {f : Frame} {m n : ℕ} {c z : Place} (d : Place) → step w.program entry c (choices m) ≡ Arrives d → is_contract_call f c d ≡ false →
-      Keeps w entry choices f (m + 1) d n z → Keeps w entry choices f m c n z
-  by_contract : {f : Frame} {m n : ℕ} {c z : Place} (d e : Place) (rank o : ℕ) (x : Contract) → step w.program entry c (choices m) ≡ Arrives d →
-      is_contract_call f c d ≡ true → contract_at f.stepped d.state.pc ≡ Some x → slice_get w.contracts rank ≡ Some x →
-      false_line w.program.machine.endian x.needs d.state d.state ≡ None →
-      Keeps w entry choices (contract_frame w rank x) (m + 1) d o e → ComesBack f x d e →
-      Keeps w entry choices f o e n z → Keeps w entry choices f m c n z
+-- contract needs and comes back, and what runs in between is such a stretch within the contract's own frame. Before its last place no stack is shorter than a
+-- floor; a called function's stretch has the stack on which it begins as its floor, so it ends where the function first comes back to the address on top of it.
+pub data Keeps (w : Whole) (entry : State) (choices : ℕ → ℕ) : (floor : ℕ) → Frame → (m : ℕ) → Place → (n : ℕ) → Place → Type 0 where
+  here : {floor : ℕ} {f : Frame} {m : ℕ} {c : Place} → Keeps w entry choices floor f m c m c
+  by_row : {floor : ℕ} {f : Frame} {m n : ℕ} {c z : Place} (d : Place) → floor ≤ length c.stack → step w.program entry c (choices m) ≡ Arrives d →
+      is_contract_call f c d ≡ false → Keeps w entry choices floor f (m + 1) d n z → Keeps w entry choices floor f m c n z
+  by_contract : {floor : ℕ} {f : Frame} {m n : ℕ} {c z : Place} (d e : Place) (rank o : ℕ) (x : Contract) → floor ≤ length c.stack →
+      step w.program entry c (choices m) ≡ Arrives d → is_contract_call f c d ≡ true → contract_at f.stepped d.state.pc ≡ Some x →
+      slice_get w.contracts rank ≡ Some x → false_line w.program.machine.endian x.needs d.state d.state ≡ None →
+      Keeps w entry choices (length d.stack) (contract_frame w rank x) (m + 1) d o e → ComesBack f x d e →
+      Keeps w entry choices floor f o e n z → Keeps w entry choices floor f m c n z
 
 -- the run of the tables from a start exits, and each call of a contract on it is kept
 pub record ExitsByFrames (w : Whole) (start : endings.Start) : Type 0 where
   pub last : ℕ
   pub place : Place
-  pub kept : Keeps w start.state start.choices (entry_frame w) 0 (record { state = start.state; stack = [] }) last place
+  pub kept : Keeps w start.state start.choices 0 (entry_frame w) 0 (record { state = start.state; stack = [] }) last place
   pub state : State
   pub exits : step w.program start.state place (start.choices last) ≡ Exits state
 

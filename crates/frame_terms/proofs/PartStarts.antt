@@ -220,6 +220,7 @@ module _ (f : Frame) (contracts : List Contract) (k : ℕ) (u : UnrolledProgram)
       are_shown AtEntry root choices calls h by made = record {
         entry = part_written 0 refl p.entry parts.at_entry (is_known_at f.program) entry_free choices by.within by.rise;
         head = λ g e. absurd (cc);
+        choices = λ h. absurd (h refl);
         calls = calls_written calls made.within;
         calls_rise = made.rise;
       }
@@ -227,6 +228,7 @@ module _ (f : Frame) (contracts : List Contract) (k : ℕ) (u : UnrolledProgram)
         entry = no_choices p.entry parts.at_entry;
         head = λ g e. subst (λ (z : WrittenHead). IsWritten layout (is_kept_at f.program) z.start) (some_head _ g e)
             (part_written 1 refl p.head (parts.at_head h) (is_kept_at f.program) head_free choices by.within by.rise);
+        choices = λ h. parts.at_entry.choices;
         calls = calls_written calls made.within;
         calls_rise = made.rise;
       }

@@ -1,5 +1,5 @@
 -- Blocks of a program's contracts.
-use Rattle.std.proofs.Common.{◌≡◌, ℕ, zero, suc, ◌-◌, ◌^◌, ◌<◌, ◌≤◌, refl, ap, sym, ◌∙◌, subst, arith, Bool, true, false, List, [], ◌∷◌, Option, Some, None, length, map, get_or}
+use Rattle.std.proofs.Common.{◌≡◌, ◌≢◌, ℕ, zero, suc, ◌-◌, ◌^◌, ◌<◌, ◌≤◌, refl, ap, sym, ◌∙◌, subst, arith, Bool, true, false, List, [], ◌∷◌, Option, Some, None, length, map, get_or}
 use Rattle.std.specs.Prelude.{All, AllPairs, ◌||◌, filter, if◌then◌else◌, nat_eq, slice_get}
 use Rattle.std.specs.List.{list_any}
 use Rattle.std.proofs.lemmas.Bool.{eqb-true}
@@ -140,10 +140,15 @@ module _ (layout : Layout) (w : Whole) (returns : ℕ → Bool) where
       subst (λ (k : ℕ → Bool). IsWritten layout k h.start) (sym (kept_same f))
       (subst (λ (x : WrittenHead). IsWritten layout (is_kept_at w.program) x.start) (some_is g h e) part.start)
 
+  no_choices : (f : FrameName) (start : Written) (o : Option WrittenHead) → IsHeadPart layout (frame_checks w returns f) start o → o ≢ None → start.choices ≡ []
+  no_choices f start None part h = absurd (h refl)
+  no_choices f start (Some g) part h = part.no_choices
+
 pub written_is_shown : WrittenIsShown
 written_is_shown layout w returns t p = record {
   entry = p.start;
   head = head_is_shown layout w returns (frame_name t.named) t.start t.head p.head;
+  choices = no_choices layout w returns (frame_name t.named) t.start t.head p.head;
   calls = blocks_are_shown layout w returns t.calls p.calls;
   calls_rise = p.calls_rise;
 }
