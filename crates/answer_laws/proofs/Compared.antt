@@ -2,6 +2,7 @@
 use Rattle.std.proofs.Common.{◌≡◌, ℕ, ◌<◌, ◌≤◌, ◌^◌, refl, ap, sym, ◌∙◌, subst, arith, List, [], ◌∷◌, ◌++◌, length, Some}
 use Rattle.std.specs.Prelude.{codes, ◌-◌, Contains}
 use Rattle.answer_laws.specs.Compared.{AreFoundEqual, EqualMeans, ShowsTwo, DifferenceIsReplayed}
+use Rattle.answer_laws.specs.EqualFindings.{AreCompared}
 use Rattle.answer_laws.specs.Replayed.{AreBytes}
 use Rattle.answer_laws.specs.Told.{AreToldTo, AfterPairFiles}
 use Rattle.answer_laws.proofs.EndingNames.{exit_is_written}
@@ -12,18 +13,16 @@ use Rattle.answer_laws.proofs.TwoCalls.{printed_is}
 use Rattle.answer_spec.specs.Outcomes.{IsOutcome, whole, cut, no_memory}
 use Rattle.bilv_spec.specs.Answers.{Report, HoldsReport, VacuousReport, FailsReport, UnrollReport, PointsReport, SizeReport, ConflictsReport, IsRightReport, start_in}
 use Rattle.bilv_spec.specs.Files.{layout_of}
-use Rattle.notes_spec.specs.Programs.{names_of}
 use Rattle.bilv_spec.specs.Points.{Point, IsPoint, HasMore}
 use Rattle.bilv_spec.specs.Run.{Program}
-use Rattle.notes_spec.specs.Verified.{IsFound}
 use Rattle.call_spec.specs.Calls.{Answer, Budget, IsBudget, Evidence, NoEvidence, Refutations, EntryRefuted, RunOf, SpentOn, Count, Two, Both, SpentOnPair, Inductive, FromHead, Frames, WithCalls, SpentOnFrame, Options, Surroundings, plain_answer}
 use Rattle.call_spec.specs.Outside.{Appends}
 use Rattle.clause_spec.specs.Checks.{text_limit}
 use Rattle.command_spec.specs.Commands.{PairNames, Equal, Differ}
 use Rattle.machine_spec.specs.StateText.{last_step}
 use Rattle.pair_spec.specs.Differs.{differ_answer}
-use Rattle.pair_spec.specs.Equals.{PairReport, OfFirst, OfSecond, NoPairReport, DiffersReport, EqualReport, PairPointsReport, PairSizeReport, PairConflictsReport, IsRightPair, IsPairReported, pair_text, side_of, differs_words, links_limit, elf_refused, elf_accepted, notes_refused, program_found, too_large, refused, linked}
-use Rattle.pair_spec.specs.Links.{Link, IsLinksText}
+use Rattle.pair_spec.specs.Equals.{PairReport, OfFirst, OfSecond, NoPairReport, DiffersReport, EqualReport, PairPointsReport, PairSizeReport, PairConflictsReport, IsRightPair, IsPairReported, pair_text, side_of, differs_words, elf_refused, elf_accepted, notes_refused, program_found, too_large, refused, linked}
+use Rattle.pair_spec.specs.Links.{Link}
 use Rattle.pair_spec.specs.Pairs.{HaveMore}
 use Rattle.pair_spec.proofs.DifferenceTold.{difference_replays}
 use Rattle.pair_spec.proofs.ExitLaws.{run_has_exit}
@@ -33,20 +32,10 @@ use Rattle.word_spec.specs.Texts.{line, joined}
 
 -- ---- what an answer over told files is of
 
--- the programs and links that the files are
-record ArePair (o : Options) (content : List ℕ → List ℕ) (names : PairNames) : Type 0 where
-  pub first : Program
-  pub second : Program
-  pub links : List Link
-  pub first_found : IsFound o (content names.elf) (content names.notes) first
-  pub second_found : IsFound o (content names.other_elf) (content names.other_notes) second
-  pub short : length (content names.links) ≤ links_limit
-  pub said : IsLinksText (names_of (content names.elf)) (names_of (content names.other_elf)) (content names.links) links
-
 module _ (o : Options) (content : List ℕ → List ℕ) (names : PairNames) where
   -- an answer that is no refusal is due to such
   pair_of : (Next : (p q : Program) → List Link → Answer → Type 0) (a : Answer) → ((status : ℕ) (written : List ℕ) → 4 ≤ status →
-      a ≡ plain_answer status written → ⊥) → AfterPairFiles o content names Next a → (x : ArePair o content names) × Next x.first x.second x.links a
+      a ≡ plain_answer status written → ⊥) → AfterPairFiles o content names Next a → (x : AreCompared o content names) × Next x.first x.second x.links a
   pair_of Next a other (elf_refused w x is) = absurd (other 4 _ (omega arith) is)
   pair_of Next a other (elf_accepted x (elf_refused w y is)) = absurd (other 4 _ (omega arith) is)
   pair_of Next a other (elf_accepted x (elf_accepted y (notes_refused w z is))) = absurd (other 5 _ (omega arith) is)
@@ -57,23 +46,23 @@ module _ (o : Options) (content : List ℕ → List ℕ) (names : PairNames) whe
   pair_of Next a other (elf_accepted x (elf_accepted y (program_found p f (program_found q g (linked links short says next))))) =
       (record { first = p; second = q; links = links; first_found = f; second_found = g; short = short; said = says }, next)
 
-  -- an answer that the programs and links determine
-  determined : (due : Program → Program → List Link → Answer) (a : Answer) (x : ArePair o content names) →
-      AfterPairFiles o content names (λ p q links y. y ≡ due p q links) a → a ≡ due x.first x.second x.links
-  determined due a x (elf_refused w y is) = absurd (refused_or_accepted (content names.elf) w y x.first_found.0)
-  determined due a x (elf_accepted f (elf_refused w y is)) = absurd (refused_or_accepted (content names.other_elf) w y x.second_found.0)
-  determined due a x (elf_accepted f (elf_accepted g (notes_refused w y is))) =
+  -- what is due to the programs and links that the files are
+  pub next_of : (Next : (p q : Program) → List Link → Answer → Type 0) (a : Answer) (x : AreCompared o content names) → AfterPairFiles o content names Next a →
+      Next x.first x.second x.links a
+  next_of Next a x (elf_refused w y is) = absurd (refused_or_accepted (content names.elf) w y x.first_found.0)
+  next_of Next a x (elf_accepted f (elf_refused w y is)) = absurd (refused_or_accepted (content names.other_elf) w y x.second_found.0)
+  next_of Next a x (elf_accepted f (elf_accepted g (notes_refused w y is))) =
       absurd (paired_refused_or_found o (content names.elf) (content names.notes) w x.first y x.first_found)
-  determined due a x (elf_accepted f (elf_accepted g (program_found p m (notes_refused w y is)))) =
+  next_of Next a x (elf_accepted f (elf_accepted g (program_found p m (notes_refused w y is)))) =
       absurd (paired_refused_or_found o (content names.other_elf) (content names.other_notes) w x.second y x.second_found)
-  determined due a x (elf_accepted f (elf_accepted g (program_found p m (program_found q n (too_large large is))))) =
+  next_of Next a x (elf_accepted f (elf_accepted g (program_found p m (program_found q n (too_large large is))))) =
       absurd (let short = x.short in omega (arith, short, large))
-  determined due a x (elf_accepted f (elf_accepted g (program_found p m (program_found q n (refused i fault short first is))))) =
+  next_of Next a x (elf_accepted f (elf_accepted g (program_found p m (program_found q n (refused i fault short first is))))) =
       absurd (links_have_no_fault _ _ (content names.links) x.links i fault x.said first)
-  determined due a x (elf_accepted f (elf_accepted g (program_found p m (program_found q n (linked links short says is))))) =
-      is ∙ ap (λ z. due z q links) (one_program o (content names.elf) (content names.notes) p x.first m x.first_found)
-      ∙ ap (λ z. due x.first z links) (one_program o (content names.other_elf) (content names.other_notes) q x.second n x.second_found)
-      ∙ ap (due x.first x.second) (one_links _ _ (content names.links) links x.links says x.said)
+  next_of Next a x (elf_accepted f (elf_accepted g (program_found p m (program_found q n (linked links short says is))))) =
+      subst (λ z. Next x.first x.second z a) (one_links _ _ (content names.links) links x.links says x.said)
+      (subst (λ z. Next x.first z links a) (one_program o (content names.other_elf) (content names.other_notes) q x.second n x.second_found)
+      (subst (λ z. Next z q links a) (one_program o (content names.elf) (content names.notes) p x.first m x.first_found) is))
 
 -- ---- the text that says that two functions are equal
 
@@ -86,7 +75,7 @@ module _ (o : Options) (content : List ℕ → List ℕ) (names : PairNames) (b 
   other : (first : ℕ) (written : List ℕ) → first_byte written ≡ first → a.text ≡ written → (first ≡ 101 → ⊥) → ⊥
   other first written is same differs = differs (sym is ∙ ap first_byte (sym same ∙ text))
 
-  of_report : (x : ArePair o content names) →
+  of_report : (x : AreCompared o content names) →
       IsPairReported (side_of o (content names.elf) x.first) (side_of o (content names.other_elf) x.second) x.links b a →
       AreFoundEqual o content names b.unroll
   of_report x (EqualReport, Both e f u v proof, right, is) = record {
@@ -132,7 +121,7 @@ no_two p layout b ConflictsReport x y h = h
 
 -- what a report that shows two starts is of
 record IsOfTwo (o : Options) (content : List ℕ → List ℕ) (names : PairNames) (b : Budget) (a : Answer) : Type 0 where
-  pub pair : ArePair o content names
+  pub pair : AreCompared o content names
   pub line_is : ℕ
   pub first_step : ℕ
   pub second_step : ℕ
@@ -144,7 +133,7 @@ record IsOfTwo (o : Options) (content : List ℕ → List ℕ) (names : PairName
       (DiffersReport line_is first_step second_step) (Two first_start second_start)
 
 module _ (o : Options) (content : List ℕ → List ℕ) (names : PairNames) (b : Budget) (a : Answer) where
-  two_of : (x : ArePair o content names) (r : PairReport) (e : Evidence) → ShowsTwo e →
+  two_of : (x : AreCompared o content names) (r : PairReport) (e : Evidence) → ShowsTwo e →
       IsRightPair (side_of o (content names.elf) x.first) (side_of o (content names.other_elf) x.second) x.links b r e →
       a.text ≡ pair_text (side_of o (content names.elf) x.first) (side_of o (content names.other_elf) x.second) b r e → IsOfTwo o content names b a
   two_of x (DiffersReport n i j) (Two v w) shows right text =
@@ -259,7 +248,7 @@ difference_is_replayed s t o content names report b first status e f bytes other
     let answered = outcome_told t content (Differ o names report) status f told_too sufficed.0 sufficed.1 outcome_too in
     let due : Program → Program → List Link → Answer =
     λ p q links. differ_answer (side_of o (content names.elf) p) (side_of o (content names.other_elf) q) links (content report) in
-    let same = determined o content names due answered.0 x.pair answered.1
+    let same = next_of o content names (λ p q links y. y ≡ due p q links) answered.0 x.pair answered.1
     ∙ ap (differ_answer (side_of o (content names.elf) x.pair.first) (side_of o (content names.other_elf) x.pair.second) x.pair.links) is
     ∙ replayed o content names b budget bytes other_bytes a x (subst (λ z. length z ≤ text_limit) is short) in (
       x.line_is,

@@ -26,3 +26,5 @@ pub mod FrameReplays
 pub mod SameFrames
 pub mod NoHeads
 pub mod OfLayout
+pub mod Failing
+pub mod EqualFindings

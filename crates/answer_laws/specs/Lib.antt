@@ -10,3 +10,5 @@ pub mod Invariants
 pub mod Contracted
 pub mod FrameReplayed
 pub mod LayoutContracts
+pub mod Failing
+pub mod EqualFindings

@@ -3,6 +3,7 @@
 #![tactic(auto)]
 
 pub mod contracts;
+pub mod fails;
 pub mod invariants;
 pub mod pairs;
 pub mod readings;
