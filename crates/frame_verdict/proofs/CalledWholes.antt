@@ -189,6 +189,7 @@ module _ {M I S : Type 0} {ms : _} {vs : _} (form : Layout) (x : Framed M I S ms
     shown_made = record {
       entry = shown_bare.entry;
       head = λ z e. absurd (cc);
+      choices = λ z. absurd (z refl);
       calls = all_to (IsWrittenCall bare form) made written;
       calls_rise = rise_to made rise;
     }

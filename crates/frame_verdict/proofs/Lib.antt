@@ -20,3 +20,11 @@ pub mod Grounding
 pub mod Measured
 mod Satisfied
 pub mod FrameScripting
+pub mod PlainBudgets
+pub mod PlainReports
+pub mod PlainTruth
+pub mod PlainScripts
+pub mod PlainCertificates
+pub mod FreeCounts
+pub mod EarlyFrames
+pub mod EarlyBounds

@@ -88,7 +88,7 @@ module _ (w : Whole) (rank : ℕ) (layout : Layout) (b : Budget) (plain : w.inva
   pub own_spent : (question : Asked) (proof : Proof) → j ≡ judged.Spent question proof → IsFrameVerdict w layout b (verdict.Conflicts rank question proof)
   own_spent question proof e =
       let q = subst (IsJudged w rank layout (budget_of b)) e h in
-      right.conflicts w layout (budget_of b) within rank (omega arith) below (frame_question question) (proof_of proof) q.0 q.1
+      right.conflicts w layout (budget_of b) within rank (omega arith) below (frame_question question) (proof_of proof) q.0 q.1 q.2
 
   -- nothing that is shown has a head state
   pub own_shows : (e : Ended) → j ≡ judged.Shows e → IsFrameVerdict w layout b (verdict.Unproved rank e.ending e.shown.start e.shown.calls)
@@ -204,7 +204,7 @@ module _ (w : Whole) (rank : ℕ) (layout : Layout) (b : Budget) (is_last : rank
     pub last_spent : (question : Asked) (proof : Proof) → j ≡ judged.Spent question proof → IsFrameVerdict w layout b (verdict.Conflicts rank question proof)
     last_spent question proof e =
         let q = subst (IsJudged w rank layout (budget_of b)) e h in
-        right.conflicts w layout (budget_of b) within rank (let l = is_last in omega arith) all.0 (frame_question question) (proof_of proof) q.0 q.1
+        right.conflicts w layout (budget_of b) within rank (let l = is_last in omega arith) all.0 (frame_question question) (proof_of proof) q.0 q.1 q.2
 
 -- ---- the contracts in turn
 

@@ -1,6 +1,6 @@
 -- What frames within the budgets come to, for the function's own.
-use Rattle.std.proofs.Common.{◌≡◌, ◌≢◌, ◌≤◌, ◌∙◌, arith, ℕ, Bool, true, false, List, [], ◌∷◌, refl, sym, subst, length}
-use Rattle.std.specs.Prelude.{◌==◌}
+use Rattle.std.proofs.Common.{◌≡◌, ◌≢◌, ◌≤◌, ◌∙◌, arith, ℕ, Bool, true, false, List, [], ◌∷◌, None, refl, ap, sym, subst, length}
+use Rattle.std.specs.Prelude.{◌==◌, map, slice_get}
 use Rattle.std.proofs.lemmas.Bool.Decides.{nat_tests}
 use Rattle.std.proofs.lemmas.List.{length-map}
 use Rattle.machine_spec.specs.StateText.{Layout}
@@ -9,11 +9,12 @@ use Rattle.call_form.specs.declared.budget.Budget.{Budget}
 use Rattle.frame_spec.specs.FrameReports.{IsWithin, last_rank}
 use Rattle.frame_spec.specs.FrameVerdict.{Whole}
 use Rattle.notes_value.specs.FrameViews.{contract_of}
+use Rattle.notes_value.specs.NoteViews.{notes_of}
 use Rattle.question_form.specs.declared.unrolled.Unrolled.{Unrolled}
 use Rattle.verdict.specs.declared.verdicts.Exceeded as past
 use Rattle.verdict.specs.declared.verdicts.Exceeded.TheVariants.{Points, Size}
 use Rattle.frame_verdict.specs.FrameCertificates.{IsFrameExceeded}
-use Rattle.frame_verdict.specs.FrameFunctions.{CanRun, IsReady, contracts_of, frame_at, whole_of_framed}
+use Rattle.frame_verdict.specs.FrameFunctions.{CanRun, CanShow, IsNotesAt, IsReady, contracts_of, frame_at, notes_by, whole_of_framed}
 use Rattle.frame_verdict.specs.FrameMeasures.{IsFrameUnrolled, IsWeighed}
 use Rattle.frame_verdict.specs.FrameVerdicts.{IsFrameVerdict}
 use Rattle.frame_verdict.specs.declared.framed.Framed.{Framed}
@@ -52,6 +53,18 @@ module _ {M I S : Type 0} {ms : _} {vs : _} (form : Layout) (x : Framed M I S ms
     within = weighed.0;
     unrolled = own_unrolled (length x.contracts.now) refl;
   }
+
+-- what is ready can be shown
+pub can_show : {M I S : Type 0} {ms : _} {vs : _} (form : Layout) (x : Framed M I S ms vs) (b : Budget) (rank : ℕ) (u : Unrolled) → IsReady form x b rank u → CanShow form x b rank u
+can_show form x b rank u ready = record { runs = ready.runs; ranked = ready.ranked; few = ready.within.points; unrolled = ready.unrolled }
+
+none_past : {A B : Type 0} (f : A → B) (xs : List A) → slice_get (map f xs) (length xs) ≡ None
+none_past f [] = refl
+none_past f (x ∷ xs) = none_past f xs
+
+-- the notes of the file are those of the function's own frame
+pub last_notes : {M I S : Type 0} {ms : _} {vs : _} (x : Framed M I S ms vs) → IsNotesAt x (length x.contracts.now) (notes_of x.program.notes.now)
+last_notes x = sym (ap (notes_by (notes_of x.program.notes.now)) (none_past contract_of x.contracts.now))
 
 -- a rank that is no contract's is the function's own
 pub last_of : {M I S : Type 0} {ms : _} {vs : _} (x : Framed M I S ms vs) (rank : ℕ) → rank ≤ length x.contracts.now → length x.contracts.now ≤ rank → rank ≡ length x.contracts.now

@@ -8,7 +8,8 @@ use Rattle.clause_spec.specs.Refutation.{Proof}
 use Rattle.call_spec.specs.Calls.{Budget}
 use Rattle.machine_spec.specs.StateText.{Layout}
 use Rattle.frame_spec.specs.Frames.{Contract, Frame, FrameEvent}
-use Rattle.frame_spec.specs.FrameQuestions.{IsDue, Question}
+use Rattle.frame_spec.specs.FramePoints.{has_heads}
+use Rattle.frame_spec.specs.FrameQuestions.{IsDue, Question, StepQuestion}
 use Rattle.frame_spec.specs.FrameReports.{AreMade, ByEvent, ByTurn, ConflictsReport, EndsAs, EntryRefuted, Frames, HoldsReport, IsMade, IsPassed, IsRightReport, IsShown, IsWithin, MakesContractStep, Named, NamedReport, NotInductiveReport, PartialReport, PassBelow, PassedBy, Shown, ShownBy, SpentOn, Spends, UnprovedReport, VacuousReport, WrittenCall, WrittenHead, last_rank, ranks, shown_start}
 use Rattle.frame_spec.specs.FrameReports as reports
 use Rattle.frame_spec.specs.FrameRuns.{Start}
@@ -229,8 +230,8 @@ module _ (w : Whole) (layout : Layout) (b : Budget) (within : IsWithin w b) wher
 
   pub conflicts : (rank : ℕ) → rank ≤ last_rank w → PassBelow w b.unroll rank → (question : Question) (proof : Proof) →
       IsDue (frame_of w rank) b.unroll question → Spends (frame_of w rank) b.unroll question b.conflicts proof →
-      IsRightReport w layout b ConflictsReport (SpentOn rank question proof)
-  conflicts rank low below question proof due spent = (within, low, below, due, spent)
+      (question ≡ StepQuestion → has_heads (frame_of w rank) ≡ true) → IsRightReport w layout b ConflictsReport (SpentOn rank question proof)
+  conflicts rank low below question proof due spent heads = (within, low, below, due, spent, heads)
 
 -- one more frame passes
 pub below_more : (w : Whole) (k rank : ℕ) → PassBelow w k rank → Passes (frame_of w rank) k → PassBelow w k (rank + 1)

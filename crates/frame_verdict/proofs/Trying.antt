@@ -43,7 +43,7 @@ use Rattle.frame_rounds.specs.FrameGrounds.{AreSegments, HasStepped, IsFrameGrou
 use Rattle.frame_start.specs.declared.meaning.Segments.{Segments}
 use Rattle.frame_start.specs.Segments.{calls_at, choices_at, written_parts}
 use Rattle.frame_rounds.proofs.FrameRoots.{root_of_number, head_written}
-use Rattle.frame_verdict.specs.FrameFunctions.{IsReady, contracts_of, frame_at, program_of_framed, whole_of_framed}
+use Rattle.frame_verdict.specs.FrameFunctions.{CanShow, contracts_of, frame_at, program_of_framed, whole_of_framed}
 use Rattle.frame_verdict.specs.FrameVerdicts.{named_of}
 use Rattle.frame_verdict.specs.ShownEnds.{CanEnd, Ends, EndsAsAsked, HasHead, IsCame, IsEnded, IsHeadFor, IsHeadWritten, begun, is_end, named_in, shown_of, wants_anchor}
 use Rattle.frame_verdict.specs.declared.framed.Framed.{Framed}
@@ -128,7 +128,7 @@ state_same : (w : Whole) (f : Frame) (k : ℕ) (layout : Layout) (parts : Writte
     (at w f k layout parts xs cs a).state ≡ (at w f k layout parts ys ds b).state
 state_same w f k layout parts a b xs ys cs ds = state_at w f k layout parts xs cs a ∙ sym (state_at w f k layout parts ys ds b)
 
-module _ {M I S : Type 0} {ms : _} {vs : _} (form : Layout) (x : Framed M I S ms vs) (b : Budget) (rank : ℕ) (u : Unrolled) (ready : IsReady form x b rank u) (question : Question)
+module _ {M I S : Type 0} {ms : _} {vs : _} (form : Layout) (x : Framed M I S ms vs) (b : Budget) (rank : ℕ) (u : Unrolled) (ready : CanShow form x b rank u) (question : Question)
     (s : Segments) (segments : AreSegments (frame_at x rank) b.unroll form question u s) (i : ℕ) (inside : i < length u.roots.items)
     (wanted : wants_anchor question (anchor_at u i) ≡ true) where
   abbrev w : Whole
@@ -189,7 +189,7 @@ module _ {M I S : Type 0} {ms : _} {vs : _} (form : Layout) (x : Framed M I S ms
   entry = entry_by question segments.shows wanted
 
   few : ¬ frames.HasMore f k b.points
-  few = wholes_are_few w k b.points rank (subst (λ (n : ℕ). rank ≤ n) (sym (length_map x)) ready.ranked) ready.within.points
+  few = wholes_are_few w k b.points rank (subst (λ (n : ℕ). rank ≤ n) (sym (length_map x)) ready.ranked) ready.few
     where
       length_map : {M I S : Type 0} {ms : _} {vs : _} (x : Framed M I S ms vs) → length (contracts_of x) ≡ length x.contracts.now
       length_map x = length-map x.contracts.now contract_of

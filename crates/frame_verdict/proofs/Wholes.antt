@@ -1,5 +1,5 @@
 -- The points and the prices of the frames of a whole, added up in the order of their ranks.
-use Rattle.std.proofs.Common.{◌≡◌, ◌≢◌, ◌⊎◌, inl, inr, ℕ, zero, suc, ◌+◌, ◌-◌, ◌<◌, ◌≤◌, refl, ap, sym, ◌∙◌, subst, arith, List, [], ◌∷◌, ◌++◌, map, length}
+use Rattle.std.proofs.Common.{◌≡◌, ◌≢◌, ◌⊎◌, inl, inr, ℕ, zero, suc, ◌+◌, ◌<◌, ◌≤◌, refl, ap, sym, ◌∙◌, subst, arith, List, [], ◌∷◌, ◌++◌, map, length}
 use Rattle.std.specs.Prelude.{Contains, min}
 use Rattle.std.specs.List.{AllZip}
 use Rattle.std.proofs.lemmas.Bool.{cases_lt}
@@ -12,7 +12,7 @@ use Rattle.bilv_spec.proofs.PointsInGraph.{of_map, none_in, split_in}
 use Rattle.frame_spec.specs.FramePoints as frames
 use Rattle.frame_spec.specs.FramePoints.{ArePoints, AtEntry, IsPoint, IsPrice, Point, first_of}
 use Rattle.frame_spec.specs.FrameVerdict.{Whole, frame_of}
-use Rattle.frame_spec.specs.FrameReports.{HasMore, IsWholePrice, IsWithin, RankedPoint, last_rank, ranks}
+use Rattle.frame_spec.specs.FrameReports.{HasMore, IsWholePrice, IsWithin, RankedPoint, last_rank}
 use Rattle.frame_laws.proofs.OnceLists.{head_or_tail, not_in_tail, once_more, once_tail}
 use Rattle.call_spec.specs.Calls.{Budget}
 use Rattle.frame_verdict.specs.FrameMeasures.{ArePointsBelow, IsPriceBelow}

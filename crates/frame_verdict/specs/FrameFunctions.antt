@@ -9,7 +9,7 @@ use Rattle.bilv_spec.specs.Run.{Program}
 use Rattle.call_form.specs.Views.{budget_of}
 use Rattle.call_form.specs.declared.budget.Budget.{Budget}
 use Rattle.frame_spec.specs.Frames.{Contract, Frame}
-use Rattle.frame_spec.specs.FrameReports.{IsWithin}
+use Rattle.frame_spec.specs.FrameReports.{HasMore, IsWithin}
 use Rattle.frame_spec.specs.FrameVerdict as frames
 use Rattle.frame_spec.specs.FrameVerdict.{Whole}
 use Rattle.notes_value.specs.FrameViews.{contract_of}
@@ -71,7 +71,15 @@ pub record CanRun {M I S : _} {d : _} {v : _} (x : Framed M I S d v) : Type 0 wh
   pub rising : IsStrictlyIncreasing x.invariants.now
   pub alone : x.contracts.now ≢ [] → x.invariants.now ≡ []
 
--- What the verdict of the frame of a rank needs besides: the budgets; and its unrolled frame, over the form of states.
+-- What it needs besides that segments of the frame of a rank are shown: that all frames together have no more points than the budget; and its unrolled frame,
+-- over the form of states.
+pub record CanShow {M I S : _} {d : _} {v : _} (form : Layout) (x : Framed M I S d v) (b : Budget) (rank : ℕ) (u : Unrolled) : Type 0 where
+  pub runs : CanRun x
+  pub ranked : rank ≤ length x.contracts.now
+  pub few : ¬ HasMore (whole_of_framed x) b.unroll b.points
+  pub unrolled : IsFrameUnrolled (frame_at x rank) (contracts_of x) b.unroll form u
+
+-- What the verdict of the frame of a rank needs: the budgets; and its unrolled frame.
 pub record IsReady {M I S : _} {d : _} {v : _} (form : Layout) (x : Framed M I S d v) (b : Budget) (rank : ℕ) (u : Unrolled) : Type 0 where
   pub runs : CanRun x
   pub ranked : rank ≤ length x.contracts.now

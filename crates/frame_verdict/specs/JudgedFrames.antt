@@ -6,7 +6,8 @@ use Rattle.call_spec.specs.Calls.{Budget}
 use Rattle.call_form.specs.declared.budget.Budget as budgets
 use Rattle.machine_spec.specs.StateText.{Layout}
 use Rattle.frame_spec.specs.Frames.{Frame}
-use Rattle.frame_spec.specs.FrameQuestions.{IsDue}
+use Rattle.frame_spec.specs.FramePoints.{has_heads}
+use Rattle.frame_spec.specs.FrameQuestions.{IsDue, StepQuestion}
 use Rattle.frame_spec.specs.FrameReports as reports
 use Rattle.frame_spec.specs.FrameReports.{AreMade, ByEvent, ByTurn, EndsAs, IsPassed, MakesContractStep, PassBelow, Spends, WrittenHead, last_rank}
 use Rattle.frame_spec.specs.FrameVerdict as frames
@@ -54,6 +55,7 @@ IsJudged w rank layout b (Shows e) = IsShownEnd w rank b.unroll layout e
 IsJudged w rank layout b (Spent question proof) =
     IsDue (frame_of w rank) b.unroll (frame_question question)
     × Spends (frame_of w rank) b.unroll (frame_question question) b.conflicts (proof_of proof)
+    × (frame_question question ≡ StepQuestion → has_heads (frame_of w rank) ≡ true)
 
 -- the frame of a rank passes, or gives the verdict
 abbrev pub IsPassing : Whole → (rank : ℕ) → Layout → budgets.Budget → Passing → Type 0

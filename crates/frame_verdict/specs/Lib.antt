@@ -6,3 +6,6 @@ pub mod Questions
 pub mod JudgedFrames
 pub mod FrameCertificates
 pub mod FrameScripted
+pub mod PlainVerdicts
+pub mod FewerTurns
+pub mod FreeInputs

@@ -4,14 +4,18 @@
 #![tactic(auto)]
 
 mod certifying;
+mod early;
 mod framed;
+mod inputs;
 mod judged;
 mod measuring;
+pub mod plain;
 mod ranking;
 mod ranks;
 mod scripting;
 mod segments;
 mod shown;
+mod smaller;
 mod verdicts;
 mod verifying;
 

@@ -92,7 +92,7 @@ fn judge_by_notes<'a, M: Machine>(
     ensures { IfOk result (IsPassing (whole_of_framed framed.now) rank M.form budget.now) }
 {
     let unrolled = unroll_within::<M>(alloc, framed, notes, rank, budget)?;
-    let judged = judge_frame::<M>(alloc, framed, budget, rank, &unrolled)?;
+    let judged = judge_frame::<M>(alloc, framed, notes, budget, rank, &unrolled)?;
     Ok(pass_or_end(rank, judged))
 }
 
@@ -233,7 +233,7 @@ fn verdict_within<M: Machine>(
         AllPassing::End(verdict) => return Ok(verdict),
     };
     let last = framed.contracts.len();
-    let judged = judge_frame::<M>(alloc, framed, budget, last, unrolled)?;
+    let judged = judge_frame::<M>(alloc, framed, framed.program.notes, budget, last, unrolled)?;
     let verdict = last_verdict(last, passed, judged)?;
     Ok(verdict)
 }

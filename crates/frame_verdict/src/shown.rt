@@ -14,7 +14,7 @@ ghost use Rattle.table_run.specs.CalledFrames.{called_event_of};
 ghost use Rattle.table_run.specs.CalledRuns.{IsFoundAs, cause_of};
 ghost use Rattle.table_run.specs.FrameEnds.{frame_found_of, whole_of};
 ghost use Rattle.frame_rounds.specs.FrameGrounds.{AreSegments};
-ghost use Rattle.frame_verdict.specs.FrameFunctions.{CanRun, IsReady, frame_at, frame_of_framed, program_of_framed, whole_of_framed};
+ghost use Rattle.frame_verdict.specs.FrameFunctions.{CanRun, CanShow, frame_at, frame_of_framed, program_of_framed, whole_of_framed};
 ghost use Rattle.frame_verdict.specs.FrameVerdicts.{named_of};
 ghost use Rattle.frame_verdict.specs.ShownEnds as specs;
 ghost use Rattle.frame_verdict.specs.ShownEnds.{CanEnd, EndsAsAsked, IsCame, IsEndOf, IsEnded, IsHeadFor, IsHeadWritten, IsShownAt, named_in, shown_of, start_of};
@@ -262,7 +262,7 @@ fn try_root<M: Machine>(
     asked: Asked,
     root: usize,
 ) -> Result<Option<Ended>, AllocError>
-    requires ready { IsReady M.form framed.now budget.now rank unrolled.now }
+    requires ready { CanShow M.form framed.now budget.now rank unrolled.now }
     requires segments { AreSegments (frame_at framed.now rank) budget.now.unroll M.form (frame_question asked) unrolled.now segments.now }
     requires root { root < length unrolled.now.roots.items }
     ensures { IfOk result (λ o. MatchOption o
@@ -294,7 +294,7 @@ pub fn first_ended<M: Machine>(
     segments: &Segments,
     asked: Asked,
 ) -> Result<Ended, AllocError>
-    requires ready { IsReady M.form framed.now budget.now rank unrolled.now }
+    requires ready { CanShow M.form framed.now budget.now rank unrolled.now }
     requires segments { AreSegments (frame_at framed.now rank) budget.now.unroll M.form (frame_question asked) unrolled.now segments.now }
     requires later { asked ≢ Asked.Entry }
     ensures { IfOk result (IsEnded (whole_of_framed framed.now) rank budget.now.unroll M.form (frame_question asked)) }

@@ -4,26 +4,33 @@ ghost use Rattle.call_form.specs.Views.{budget_of};
 ghost use Rattle.frame_spec.specs.FrameQuestions.{FailQuestion, IsDue};
 ghost use Rattle.frame_spec.specs.FrameReports.{Refutes};
 ghost use Rattle.cnf_form.specs.Views.{proof_of};
+ghost use Rattle.notes_value.specs.NoteViews.{notes_of};
 ghost use Rattle.question_form.specs.Asked.{frame_question};
 ghost use Rattle.start_value.specs.Starts.{written_of};
 ghost use Rattle.frame_start.specs.Segments.{IsFrameAskable};
 ghost use Rattle.frame_rounds.specs.FrameGrounds.{AreSegments};
-ghost use Rattle.frame_verdict.specs.FrameFunctions.{IsReady, frame_at, whole_of_framed};
+ghost use Rattle.frame_verdict.specs.FrameFunctions.{IsNotesAt, IsReady, frame_at, whole_of_framed};
 ghost use Rattle.frame_verdict.specs.JudgedFrames.{IsJudged};
 ghost use Rattle.frame_verdict.specs.Questions.{IsEntered, IsStepRefuted};
 
+use crate::early::judge_early;
 use crate::framed::Framed;
 use crate::judged::Judged;
 use crate::shown::first_ended;
 use call_form::Budget;
 use cnf_form::Proof;
+use frame_price::frame_price;
 use frame_rounds::{FrameAnswered, decide_frame};
 use frame_start::Segments;
 use machine_law::Machine;
+use notes_value::Notes;
 use passify::passive_of_frame;
 use question_form::{Asked, Passive, Unrolled};
 use start_value::Start;
 use std::alloc::{AllocError, Global};
+
+/// The price of a frame from which on smaller bounds are tried first. Cheaper ones are unrolled once, for the whole bound.
+const DEAR: u128 = 250_000;
 
 /// What a question other than the entry's comes to that is due and true: the segment that shows it. The error is want of memory.
 fn shows<M: Machine>(
@@ -179,17 +186,25 @@ fn judge<M: Machine>(
     }
 }
 
-/// What the questions of the unrolled frame of a rank come to. The error is want of memory.
-pub fn judge_frame<M: Machine>(
+/// What the questions of the unrolled frame of a rank come to, by smaller bounds on backward transfers where those settle them. The error is want of memory.
+pub fn judge_frame<'a, M: Machine>(
     alloc: Global,
-    framed: &Framed<M>,
+    framed: &Framed<'a, M>,
+    notes: &'a Notes,
     budget: &Budget,
     rank: usize,
     unrolled: &Unrolled,
 ) -> Result<Judged, AllocError>
+    requires notes { IsNotesAt framed.now rank (notes_of notes.now) }
     requires ready { IsReady M.form framed.now budget.now rank unrolled.now }
     ensures { IfOk result (IsJudged (whole_of_framed framed.now) rank M.form (budget_of budget.now)) }
 {
+    if frame_price(unrolled) >= DEAR {
+        let early = judge_early::<M>(alloc, framed, notes, budget, rank, unrolled)?;
+        if let Some(judged) = early {
+            return Ok(judged);
+        }
+    }
     let passive = passive_of_frame(alloc, unrolled)?;
     let judged = judge::<M>(alloc, framed, budget, rank, &passive)?;
     Ok(judged)

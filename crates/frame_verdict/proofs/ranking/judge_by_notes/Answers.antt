@@ -3,14 +3,12 @@ use Rattle.frame_verdict.specs.FrameFunctions.{whole_of_framed}
 use Rattle.frame_verdict.proofs.RankedVerdicts.{low_at, plain_at}
 use Rattle.frame_verdict.proofs.ranking.judge_by_notes.Goals as goal
 
-pub judge_frame-requires : goal.judge_frame-requires
-judge_frame-requires g c = record {
-  ready = record {
-    runs = c.requires.runs;
-    ranked = (let low = c.requires.rank in omega arith);
-    within = c.requires.within;
-    unrolled = c.in_ok-unrolled.ensures;
-  };
+pub judge_frame-requires-clause-ready : goal.judge_frame-requires-clause-ready
+judge_frame-requires-clause-ready g c = record {
+  runs = c.requires.runs;
+  ranked = (let low = c.requires.rank in omega arith);
+  within = c.requires.within;
+  unrolled = c.in_ok-unrolled.ensures;
 }
 
 pub returns : goal.returns

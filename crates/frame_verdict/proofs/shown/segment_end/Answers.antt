@@ -1,4 +1,3 @@
-use Rattle.std.proofs.Common.{◌-◌}
 use Rattle.frame_verdict.specs.FrameFunctions.{program_of_framed}
 use Rattle.frame_verdict.proofs.CameTo.{named_end, no_head_state, other_end}
 use Rattle.frame_verdict.proofs.shown.segment_end.Goals as goal

@@ -19,6 +19,7 @@ returns-in-Spent g c = (
   answered c.args.passive.now.unrolled.now EntryQuestion c.args.budget.now.conflicts c.in_ok-segments.field-0 (Spent c.in-Spent.proof)
       c.in_ok-segments.ensures c.in-Spent.is (frame_at c.args.framed.now c.args.rank) (contracts_of c.args.framed.now)
       c.args.budget.now.unroll g.M.Machine.form c.requires.ready.unrolled.ground,
+  λ s. absurd (cc),
 )
 
 pub shows-requires-clause-segments : goal.shows-requires-clause-segments
@@ -56,4 +57,5 @@ returns-in-Spent-2 g c =
           c.in_ok-segments.ensures c.in-Sat.is f (contracts_of c.args.framed.now) c.args.budget.now.unroll g.M.Machine.form ground).shows,
       answered c.args.passive.now.unrolled.now FailQuestion c.args.budget.now.conflicts c.in_ok-segments-2.field-0 (Spent c.in-Spent-2.proof)
           c.in_ok-segments-2.ensures c.in-Spent-2.is f (contracts_of c.args.framed.now) c.args.budget.now.unroll g.M.Machine.form ground,
+      λ s. absurd (cc),
     )

@@ -34,4 +34,5 @@ returns-in-Spent g c =
       step_due f ground.lawful ground.reads c.args.budget.now.unroll g.M.Machine.form (written_of c.args.start) c.requires.entered c.args.fail c.requires.fail,
       answered c.args.passive.now.unrolled.now StepQuestion c.args.budget.now.conflicts c.in_ok-segments.field-0 (Spent c.in-Spent.proof)
           c.in_ok-segments.ensures c.in-Spent.is f (contracts_of c.args.framed.now) c.args.budget.now.unroll g.M.Machine.form ground,
+      λ s. sym ground.heads ∙ c.if-not-passive.false,
     )

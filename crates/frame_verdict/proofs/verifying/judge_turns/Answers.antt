@@ -47,4 +47,5 @@ returns-in-Spent g c =
           c.requires.step,
       answered c.args.passive.now.unrolled.now TurnQuestion c.args.budget.now.conflicts c.in_ok-segments.field-0 (Spent c.in-Spent.proof)
           c.in_ok-segments.ensures c.in-Spent.is f (contracts_of c.args.framed.now) k g.M.Machine.form ground,
+      λ s. absurd (cc),
     )

@@ -1,0 +1,7 @@
+pub mod Alike
+pub mod AlikeQuestions
+pub mod AnchorCounts
+pub mod FreeInputs
+pub mod MoreVariables
+pub mod Prices
+pub mod Raising
