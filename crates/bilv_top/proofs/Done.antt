@@ -10,7 +10,6 @@ use Rattle.model_spec.specs.Models.{AfterBudgets, IsAskedModelAnswer, points, si
 use Rattle.command_line.specs.Commands.{budget_of, frame_question}
 use Rattle.bilv_top.specs.Tasks.{IsDone}
 use Rattle.bilv_top.specs.declared.tasks.Task.{Task}
-use Rattle.bilv_top.specs.declared.tasks.Task.TheVariants as task
 use Rattle.bilv_top.proofs.Refused.{read_since}
 
 -- of the machine that a file is of
@@ -37,10 +36,8 @@ budgets_next p b Next Other a step (within is next) = within is (step next)
 pub done_since : (s t : Surroundings) (asked : Task) (layout : Layout) (p : Program) (a : Answer) → ((n : List ℕ) → s.held n ≡ t.held n) →
     ((n : List ℕ) → t.shelf_before n ≤ s.shelf_before n) → ((n : List ℕ) → s.shelf_after n ≡ t.shelf_after n) → IsDone s asked layout p a →
     IsDone t asked layout p a
-done_since s t (task.Report budget) layout p a held before after done = done
-done_since s t (task.Script question budget) layout p a held before after done = done
-done_since s t (task.Certificate question budget) layout p a held before after done = done
-done_since s t (task.Model question budget name) layout p a held before after done =
-    let Judged = IsAskedModelAnswer p layout (budget_of budget) (program_question (frame_question question)) in
-    budgets_next p (budget_of budget) (AfterRead s name.now Judged) (AfterRead t name.now Judged) a
-    (read_since s t name.now Judged a (held name.now) (before name.now) (after name.now)) done
+done_since s t asked layout p a held before after done =
+    let Judged = IsAskedModelAnswer p layout (budget_of asked.budget) (program_question (frame_question asked.question)) in
+    let name = asked.values.now in
+    budgets_next p (budget_of asked.budget) (AfterRead s name Judged) (AfterRead t name Judged) a
+    (read_since s t name Judged a (held name) (before name) (after name)) done

@@ -1,6 +1,11 @@
 -- What is known of a program that was found: its notes are over the registers and flags of the machine.
-use Rattle.std.proofs.Common.{◌≡◌, ◌≢◌, ◌≤◌, ℕ, suc, List, [], ◌∷◌, Some, Bool, true, false, refl, subst, ◌∙◌, ap}
+use Rattle.std.proofs.Common.{◌≡◌, ◌≢◌, ◌≤◌, ℕ, suc, List, [], ◌∷◌, None, Some, Bool, true, false, refl, subst, sym, ◌∙◌, ap, arith}
 use Rattle.std.specs.Prelude.{All, if◌then◌else◌, map, slice_get}
+use Rattle.std.specs.List.Sorted.{IsStrictlyIncreasing}
+use Rattle.answer_spec.specs.FrameAnswers.{IsVerifiedWhole}
+use Rattle.answer_spec.proofs.Wholes.{entry_of_text, without_frames}
+use Rattle.bilv_spec.specs.Answers.{IsReported}
+use Rattle.bilv_spec.specs.Notes.{Notes}
 use Rattle.std.proofs.lemmas.List.Elements.{All-nil, All-cons, All-head, All-tail, All-weaker}
 use Rattle.frame_verdict.specs.FrameFunctions.{IsCallable}
 use Rattle.frame_spec.specs.Frames as frames
@@ -8,22 +13,26 @@ use Rattle.frame_spec.specs.FrameVerdict.{Whole}
 use Rattle.notes_lang.specs.Framed.{IsContractOver}
 use Rattle.machine_spec.specs.Arm.{arm}
 use Rattle.bilv_spec.specs.Elf.{file_endian}
-use Rattle.call_spec.specs.Calls.{Options}
+use Rattle.call_spec.specs.Calls.{Answer, Budget, Options}
 use Rattle.bilv_spec.specs.Run.{Program}
-use Rattle.bilv_spec.specs.Files.{is_rv, order_of}
+use Rattle.bilv_spec.specs.Files.{IsFunctionAt, is_rv, machine_of, order_of, program_of}
 use Rattle.machine_spec.specs.Machine.{Machine, IsAtPlace}
+use Rattle.machine_spec.specs.StateText.{Layout}
+use Rattle.notes_spec.specs.Programs.{vocabulary_of}
+use Rattle.notes_spec.specs.Scopes.{Plain, in_dialect}
+use Rattle.notes_spec.proofs.FrameReadings.{notes_are_framed}
 use Rattle.word_spec.specs.Memory.{Endian, Little}
 use Rattle.machine_spec.specs.RvMachine.{rv32}
 use Rattle.notes_value.specs.NoteViews.{notes_of}
 use Rattle.notes_value.specs.FrameViews.{contract_of}
 use Rattle.notes_value.specs.Reads.{AreOver, AreReadable, IsOver, IsReadableContract}
 use Rattle.notes_value.specs.declared.notes.Contract.{Contract}
-use Rattle.bilv_top.specs.Frames.{AreContractsOn, AreContractsOver, AreFitted, whole_with}
+use Rattle.bilv_top.specs.Frames.{AreContractsOn, AreContractsOver, AreFitted, whole_by, whole_with}
 use Rattle.bilv_top.specs.declared.framed.Framed.{Framed}
 use Rattle.bilv_top.proofs.Segments.{no_contract}
 use Rattle.bilv_top.specs.declared.inputs.Found.{Found}
 use Rattle.bilv_top.specs.Chosen.{IsMachineOf}
-use Rattle.bilv_top.specs.Due.{IsOverFile}
+use Rattle.bilv_top.specs.Due.{IsFoundBy, IsOverFile}
 
 by_kind : (b : Bool) (e : Endian) (o : Options) → (if b then Little else e) ≡ (if b then rv32 o.compressed else arm e o.profile).endian
 by_kind true e o = refl
@@ -66,6 +75,43 @@ without_invariants w fitted some = by w.contracts refl
     by : (cs : List frames.Contract) → w.contracts ≡ cs → w.invariants ≡ []
     by [] is = absurd (some is)
     by (x ∷ rest) is = (fitted 0 x (ap (λ (l : List frames.Contract). slice_get l 0) is)).no_invariants
+
+-- what was found with neither invariants nor contracts, where the notes of one function say so
+module _ (o : Options) (file : List ℕ) (found : Found) (by : IsFoundBy o file found) (f : Framed) (same : f.found ≡ found)
+    (none : f.invariants.items ≡ []) (free : f.contracts.items ≡ []) where
+  pub found_over_file : IsOverFile file f.found
+  found_over_file = subst (IsOverFile file) (sym same) by.over_file
+
+  pub found_place : IsAtPlace (machine_of o file).narrow f.found.entry
+  found_place =
+      let v = in_dialect Plain (vocabulary_of o file) in
+      let it = notes_are_framed v found.text.items (notes_of found.notes) by.says in
+      subst (λ (x : Found). IsAtPlace (machine_of o file).narrow x.entry) (sym same)
+      (entry_of_text v file found.text.items it.0 found.entry it.2
+      (subst (λ (n : Notes). IsFunctionAt (machine_of o file).narrow file n.entry found.entry) (sym it.1) by.at))
+
+  pub found_rising : IsStrictlyIncreasing f.invariants.items
+  found_rising = subst IsStrictlyIncreasing (sym none) (λ k l. absurd (omega (arith, l)))
+
+  pub found_contracts : AreContractsOver file f.contracts.items
+  found_contracts =
+      subst (AreContractsOver file) (sym free)
+      (record {
+        readable = λ o. All-nil (λ x. IsReadableContract (machine_of o file).has_register (contract_of x));
+        over = λ o. All-nil (λ x. IsContractOver (machine_of o file).has_register (machine_of o file).has_flag (contract_of x));
+      })
+
+  pub found_fitted : AreFitted (whole_by (machine_of o file) file f)
+  found_fitted rank x at =
+      absurd (let e : None ≡ Some x = subst (λ (cs : List Contract). slice_get (map contract_of cs) rank ≡ Some x) free at in cc)
+
+  -- and its verdict is one on its program
+  pub found_reported : (layout : Layout) (b : Budget) (a : Answer) → IsVerifiedWhole layout b (whole_by (machine_of o file) file f) a →
+      IsReported (program_of (machine_of o file) file (notes_of found.notes) found.entry) layout b a
+  found_reported layout b a verified =
+      let w = whole_by (machine_of o file) file f in
+      subst (λ (x : Found). IsReported (program_of (machine_of o file) file (notes_of x.notes) x.entry) layout b a) same
+      ((without_frames w.invariants w.contracts _ _ none (ap (map contract_of) free)).0 verified)
 
 -- with contracts there are no invariants, of what was found
 pub alone_with : (p : Program) (f : Framed) → AreFitted (whole_with p f) → f.contracts.items ≢ [] → f.invariants.items ≡ []

@@ -7,6 +7,7 @@ pub mod Ended
 pub mod Verdicts
 pub mod Founds
 pub mod Segments
+pub mod PlainAnswers
 pub mod Made
 pub mod Modelled
 pub mod Compared

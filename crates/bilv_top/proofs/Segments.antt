@@ -1,23 +1,16 @@
 -- Functions whose notes may have invariants or contracts: what is found of them, and what is answered about them.
-use Rattle.std.proofs.Common.{◌≡◌, ◌≢◌, ℕ, suc, ◌≤◌, ◌==◌, arith, refl, ap, sym, subst, ◌∙◌, false, true, List, [], ◌∷◌, Option, Some, None, inl, inr, length}
+use Rattle.std.proofs.Common.{◌≡◌, ◌≢◌, ℕ, suc, ◌≤◌, ◌==◌, arith, refl, ap, sym, subst, ◌∙◌, false, true, List, [], ◌∷◌, Option, Some, None, length}
 use Rattle.std.proofs.lemmas.Bool.Decides.{nat_tests}
-use Rattle.std.specs.Prelude.{All, Bool, codes, map, ◌⊎◌, MatchOption}
+use Rattle.std.specs.Prelude.{All, Bool, codes, map}
 use Rattle.std.specs.Option.{option_map}
 use Rattle.std.specs.List.Sorted.{IsStrictlyIncreasing}
-use Rattle.answer_spec.specs.FrameAnswers.{dialect_for, AfterFrame, AfterFrames, asked_rank, frames_refused, frames_found, ByFrames, ByInvariants, ByQuestion, IsCertifiedWhole, IsReplayedWhole, IsScriptWhole, IsVerifiedWhole, judged, too_long}
+use Rattle.answer_spec.specs.FrameAnswers.{dialect_for, AfterFrame, AfterFrames, asked_rank, frames_refused, frames_found, ByInvariants, IsReplayedWhole, judged, too_long}
 use Rattle.answer_spec.specs.FrameGraphs.{IsFrameGraphText}
 use Rattle.answer_spec.specs.Outcomes.{AfterElf, ByContracts, IsFrameGraphed, IsGraphed, IsGraphedWhole}
-use Rattle.answer_spec.proofs.Wholes.{entry_of_text, fitted_contract, question_of, replayed_by_frames, without_frames}
-use Rattle.bilv_spec.specs.Answers.{IsReported}
-use Rattle.bilv_spec.specs.Certified.{IsCertified}
+use Rattle.answer_spec.proofs.Wholes.{entry_of_text, fitted_contract, replayed_by_frames}
 use Rattle.bilv_spec.specs.Files.{machine_of, IsFunctionAt}
-use Rattle.bilv_spec.specs.Scripts.{IsScriptAnswer}
-use Rattle.call_spec.specs.Calls.{Options, Answer, Budget, Question, plain_answer, program_question, Surroundings, AfterRead, read_failed, was_read}
-use Rattle.call_spec.specs.Framed as framed
-use Rattle.command_line.specs.Commands.{budget_of, frame_question}
+use Rattle.call_spec.specs.Calls.{Options, Answer, plain_answer, Surroundings, AfterRead, read_failed, was_read}
 use Rattle.frame_spec.specs.Frames as frames
-use Rattle.frame_spec.specs.FrameCertified.{IsFrameCertified}
-use Rattle.frame_spec.specs.FrameScripts.{IsFrameScriptAnswer}
 use Rattle.call_spec.specs.Outside.{Held, Agrees}
 use Rattle.clause_spec.specs.Checks.{text_limit}
 use Rattle.frame_spec.specs.FrameVerdict.{Whole}
@@ -41,13 +34,12 @@ use Rattle.start_value.specs.declared.layout.Layout as forms
 use Rattle.word_spec.specs.Texts.{line}
 use Rattle.bilv_top.specs.Answers.{IfStep}
 use Rattle.bilv_top.specs.Due.{AreNotesAnsweredIn, IsFramesAnswer, IsOverFile, IsUnread, failed, longer, unread, refused}
-use Rattle.bilv_top.specs.Frames.{framed_of, frame_named, whole_by, AreContractsOver, IsFramedBy, IsFramedDone, IsOfFrames, IsOfProgram, IsSegmented}
+use Rattle.bilv_top.specs.Frames.{framed_of, frame_named, whole_by, AreContractsOver, IsFramedBy, IsFramedDone, IsSegmented}
 use Rattle.bilv_top.specs.declared.answer.Step.{Step}
 use Rattle.bilv_top.specs.declared.answer.Step.TheVariants.{Answered, Go}
 use Rattle.bilv_top.specs.declared.frame_tasks.FrameTask.{FrameTask}
 use Rattle.bilv_top.specs.declared.frame_tasks.FrameTask.TheVariants.{Report, Graph, Script, Certificate, Replay}
 use Rattle.bilv_top.specs.declared.framed.Framed.{Framed}
-use Rattle.bilv_top.specs.declared.tasks.Task.{Task}
 use Rattle.bilv_top.proofs.Refused.{answer_since, elf_accepts, read_since}
 
 -- ---- what is found
@@ -154,74 +146,18 @@ pub framed_done_of : (s : Surroundings) (t : FrameTask) (machine : List ℕ → 
     image ≡ file → IsFramedDone s t (layout image) (whole_by (machine image) image f) a → IsFramedDone s t (layout file) (whole_by (machine file) file f) a
 framed_done_of s t machine layout image file f a same done = subst (λ x. IsFramedDone s t (layout x) (whole_by (machine x) x f) a) same done
 
--- ---- by whether there are invariants or contracts, and whether a question is one of a program
-
--- there are some of either
-abbrev pub HasSome : (invariants : List ℕ) → (contracts : List frames.Contract) → Type 0
-HasSome invariants contracts = invariants ≡ [] → contracts ≡ [] → ⊥
-
--- what is due to a question of a frame
-framed_due : (invariants : List ℕ) (contracts : List frames.Contract) (o : Option Question) (Plain : Question → Type 0) (Framed : Type 0) →
-    (o ≡ None) ⊎ HasSome invariants contracts → Framed → ByQuestion invariants contracts o Plain Framed
-framed_due [] [] None Plain Framed h is = is
-framed_due [] [] (Some kind) Plain Framed (inl none) is = absurd (let no : ⊥ = cc in no)
-framed_due [] [] (Some kind) Plain Framed (inr some) is = absurd (some refl refl)
-framed_due [] (x ∷ rest) o Plain Framed h is = is
-framed_due (n ∷ rest) contracts o Plain Framed h is = is
-
-due_with : (invariants : List ℕ) (contracts : List frames.Contract) (A B : Type 0) → HasSome invariants contracts → B → ByFrames invariants contracts A B
-due_with [] [] A B some is = absurd (some refl refl)
-due_with [] (x ∷ rest) A B some is = is
-due_with (n ∷ rest) contracts A B some is = is
-
 -- what is due to the frame of a rank, which a word names
 named_due : (o : Option ℕ) (rank : ℕ) (Next : ℕ → Type 0) (a : Answer) → o ≡ Some rank → Next rank → AfterFrame o Next a
 named_due o rank Next a is next = subst (λ (x : Option ℕ). AfterFrame x Next a) (sym is) next
 
--- what is answered as of a program, where there are none
-module _ (layout : Layout) (b : Budget) (w : Whole) (a : Answer) (none : w.invariants ≡ []) (free : w.contracts ≡ []) where
-  pub reported_plain : IsReported w.program layout b a → IsVerifiedWhole layout b w a
-  reported_plain done = (without_frames w.invariants w.contracts _ _ none free).1 done
-
-  module _ (frame : Option (List ℕ)) (rank : ℕ) (asked : asked_rank w frame ≡ Some rank) (question : framed.Question) (kind : Question)
-      (is : Some kind ≡ program_question question) where
-    pub certified_plain : IsCertified w.program b kind a.status a.text a.evidence → IsCertifiedWhole b frame question w a
-    certified_plain done =
-        named_due (asked_rank w frame) rank _ a asked
-        ((question_of w.invariants w.contracts (program_question question) kind (λ q. IsCertified w.program b q a.status a.text a.evidence)
-        (IsFrameCertified w rank b question a.status a.text a.evidence) none free (sym is)).1 done)
-
-    pub scripted_plain : IsScriptAnswer w.program layout b kind a → IsScriptWhole layout b frame question w a
-    scripted_plain done =
-        named_due (asked_rank w frame) rank _ a asked
-        ((question_of w.invariants w.contracts (program_question question) kind (λ q. IsScriptAnswer w.program layout b q a)
-        (IsFrameScriptAnswer w rank layout b question a) none free (sym is)).1 done)
-
--- what is asked of frames is so answered: a question about head states, the graph, the replay of a report
-module _ (s : Surroundings) (layout : Layout) (w : Whole) (rank : ℕ) (a : Answer) where
-  pub certified_framed : (b : Budget) (frame : Option (List ℕ)) (question : framed.Question) → asked_rank w frame ≡ Some rank →
-      (program_question question ≡ None) ⊎ HasSome w.invariants w.contracts → IsFrameCertified w rank b question a.status a.text a.evidence →
-      IsCertifiedWhole b frame question w a
-  certified_framed b frame question asked other done =
-      named_due (asked_rank w frame) rank _ a asked
-      (framed_due w.invariants w.contracts (program_question question) (λ kind. IsCertified w.program b kind a.status a.text a.evidence) _ other done)
-
-  pub scripted_framed : (b : Budget) (frame : Option (List ℕ)) (question : framed.Question) → asked_rank w frame ≡ Some rank →
-      (program_question question ≡ None) ⊎ HasSome w.invariants w.contracts → IsFrameScriptAnswer w rank layout b question a →
-      IsScriptWhole layout b frame question w a
-  scripted_framed b frame question asked other done =
-      named_due (asked_rank w frame) rank _ a asked
-      (framed_due w.invariants w.contracts (program_question question) (λ kind. IsScriptAnswer w.program layout b kind a) _ other done)
-
-  segmented_done : (t : FrameTask) → HasSome w.invariants w.contracts → asked_rank w (frame_named t) ≡ Some rank → IsSegmented s t rank layout w a →
-      IsFramedDone s t layout w a
-  segmented_done (Report budget) some asked done = due_with w.invariants w.contracts _ _ some done
-  segmented_done Graph some asked done = done
-  segmented_done (Script question budget frame) some asked done =
-      scripted_framed (budget_of budget) (option_map (λ x. x.now) frame) (frame_question question) asked (inr some) done
-  segmented_done (Certificate question budget frame) some asked done =
-      certified_framed (budget_of budget) (option_map (λ x. x.now) frame) (frame_question question) asked (inr some) done
-  segmented_done (Replay name) some asked done = done
+-- the answer about the frame of a rank is that about the one that is named
+pub segmented_done : (s : Surroundings) (t : FrameTask) (rank : ℕ) (layout : Layout) (w : Whole) (a : Answer) → asked_rank w (frame_named t) ≡ Some rank →
+    IsSegmented s t rank layout w a → IsFramedDone s t layout w a
+segmented_done s (Report budget) rank layout w a asked done = done
+segmented_done s Graph rank layout w a asked done = done
+segmented_done s (Script question budget frame) rank layout w a asked done = named_due (asked_rank w (option_map (λ x. x.now) frame)) rank _ a asked done
+segmented_done s (Certificate question budget frame) rank layout w a asked done = named_due (asked_rank w (option_map (λ x. x.now) frame)) rank _ a asked done
+segmented_done s (Replay name) rank layout w a asked done = done
 
 -- what is due where no frame has the name
 unnamed_due : (o : Option ℕ) (Next : ℕ → Type 0) (a : Answer) → o ≡ None → a ≡ plain_answer 5 (line (codes "notes: NoFrame")) → AfterFrame o Next a
@@ -250,18 +186,6 @@ some_of xs n count is none = let e : n ≢ 0 = grind (arith, nat_tests) in e (co
 pub no_contract : (cs : List Contract) → map contract_of cs ≡ [] → cs ≡ []
 no_contract [] none = refl
 no_contract (x ∷ rest) none = absurd (let no : ⊥ = cc in no)
-
--- a task of a program is one where there are none of either, and one over frames where there are some
-pub is_program_task : (t : FrameTask) (ns : List ℕ) (cs : List Contract) (r : Option Task) → ns ≡ [] → cs ≡ [] →
-    MatchOption r ((invariants : List ℕ) (contracts : List frames.Contract) → IsOfFrames t invariants contracts) (IsOfProgram t [] []) →
-    MatchOption r (IsOfFrames t ns (map contract_of cs)) (IsOfProgram t ns (map contract_of cs))
-is_program_task t ns cs (Some plain) none free same =
-    subst (λ i. IsOfProgram t i (map contract_of cs) plain) (sym none) (subst (λ c. IsOfProgram t [] c plain) (sym (ap (map contract_of) free)) same)
-is_program_task t ns cs None none free same = same ns (map contract_of cs)
-
-pub is_frame_task : (t : FrameTask) (ns : List ℕ) (cs : List Contract) → (ns ≡ [] → cs ≡ [] → ⊥) → IsOfFrames t ns (map contract_of cs)
-is_frame_task t ns cs some s layout w rank a same also asked done =
-    segmented_done s layout w rank a t (λ none free. some (sym same ∙ none) (no_contract cs (sym also ∙ free))) asked done
 
 -- since before other files were read
 pub framed_since : (s t : Surroundings) (asked : FrameTask) (layout : Layout) (w : Whole) (a : Answer) → ((n : List ℕ) → s.held n ≡ t.held n) →

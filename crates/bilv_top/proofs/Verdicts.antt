@@ -1,18 +1,17 @@
 -- What verdicts and certified questions answer.
-use Rattle.std.proofs.Common.{◌≡◌, ℕ, List, None, ap, refl, sym, subst, ◌∙◌}
+use Rattle.std.proofs.Common.{◌≡◌, ℕ, List, Option, Some, None, ap, refl, sym, subst, ◌∙◌}
 use Rattle.std.specs.Prelude.{codes}
 use Rattle.bilv_spec.specs.Run.{Program}
 use Rattle.answer_spec.specs.FrameAnswers.{frame_report_answer, frame_status, name_of, unproved_ending}
-use Rattle.call_spec.specs.Calls.{Question, Answer, Budget, Count, SpentOn, SpentOnFrame, WithCalls, plain_answer}
+use Rattle.call_spec.specs.Calls.{Question, Answer, Budget, Count, SpentOnFrame, WithCalls, plain_answer, program_question}
 use Rattle.call_spec.specs.Framed.{WrittenCall}
 use Rattle.machine_spec.specs.StateText.{Layout}
 use Rattle.word_spec.specs.State.{Written}
 use Rattle.word_spec.specs.Texts.{line}
-use Rattle.bilv_spec.specs.Answers.{budget_text, report_answer, IsReported}
+use Rattle.bilv_spec.specs.Answers.{budget_text, report_answer}
 use Rattle.clause_spec.specs.Certificates.{certificate_text}
 use Rattle.bilv_spec.specs.Certified as spec
 use Rattle.bilv_spec.specs.Certified.{IsCertified}
-use Rattle.bilv_spec.specs.Scripts.{IsScriptAnswer, too_many_points, too_large}
 use Rattle.cnf_form.specs.Views.{cnf_of, lines_of, proof_of}
 use Rattle.cnf_form.specs.declared.form.Proof.{Proof}
 use Rattle.frame_spec.specs.FrameCertified as frames
@@ -30,21 +29,14 @@ use Rattle.frame_verdict.specs.FrameScripted.{IsFrameScripted}
 use Rattle.frame_verdict.specs.FrameVerdicts as over
 use Rattle.frame_verdict.specs.declared.verdicts.FrameVerdict.{FrameVerdict}
 use Rattle.frame_verdict.specs.declared.verdicts.FrameVerdict.TheVariants as over_frames
-use Rattle.verdict.specs.Verdicts.{budget_of, report_of, evidence_of, exceeded_report, exceeded_count, IsVerdict, IsCertificate, IsScripted}
-use Rattle.call_form.specs.declared.budget.Budget.{Budget as Limits}
+use Rattle.verdict.specs.Verdicts.{report_of, evidence_of, exceeded_report, exceeded_count, IsCertificate}
 use Rattle.verdict.specs.declared.verdicts.Verdict.{Verdict}
 use Rattle.verdict.specs.declared.verdicts.Scripted.TheVariants as scripted
 use Rattle.verdict.specs.declared.verdicts.Certified.TheVariants.{Exceeded, Conflicts, Satisfiable, Refuted}
 use Rattle.verdict.specs.declared.verdicts.Exceeded as past
 use Rattle.verdict.specs.declared.verdicts.Exceeded.TheVariants.{Points, Size}
 use Rattle.verdict.specs.declared.verdicts.Verdict.TheVariants as verdict
-use Rattle.bilv_top.specs.Answers.{exceeded_answer}
-
--- the report of a verdict is right
-pub verdict_reported : (p : Program) (form written : Layout) (b : Limits) (v : Verdict) (a : Answer) → written ≡ form → IsVerdict p form b v →
-    a ≡ report_answer written (budget_of b) (report_of v) (evidence_of v) → IsReported p form (budget_of b) a
-verdict_reported p form written b v a writes right is =
-    (report_of v, evidence_of v, right, is ∙ ap (λ layout. report_answer layout (budget_of b) (report_of v) (evidence_of v)) writes)
+use Rattle.bilv_top.specs.Answers.{exceeded_answer, program_answer, spent_on}
 
 -- the report that a budget is exceeded
 as_report : (layout : Layout) (b : Budget) (e : past.Exceeded) → exceeded_answer b e ≡ report_answer layout b (exceeded_report e) (Count (exceeded_count e))
@@ -87,29 +79,33 @@ module _ (w : Whole) (layout : Layout) (b : Budget) (a : Answer) where
       })
       (ending_is ∙ ap (λ (x : FrameName). unproved_ending x b n) f_is)
 
--- the answer to a question
-abbrev IsSaid : Program → Budget → Question → Answer → Type 0
-IsSaid p b q a = IsCertified p b q a.status a.text a.evidence
+-- the answer to a question, told of the one frame of a program as one about the program
+abbrev pub IsSaid : Program → Budget → Question → Answer → Type 0
+IsSaid p b q a = let told = program_answer a in IsCertified p b q told.status told.text told.evidence
 
 module _ (p : Program) (b : Budget) (q : Question) (a : Answer) where
-  pub exceeded_said : (e : past.Exceeded) → a ≡ exceeded_answer b e → IsCertificate p b q (Exceeded e) → IsCertified p b q a.status a.text a.evidence
+  pub exceeded_said : (e : past.Exceeded) → a ≡ exceeded_answer b e → IsCertificate p b q (Exceeded e) → IsSaid p b q a
   exceeded_said (Points count) is came =
       subst (IsSaid p b q) (sym (is ∙ ap (λ n. record { status = 3; text = budget_text (codes "points") b.points; evidence = Count n }) came.1))
       (spec.points came.0)
   exceeded_said (Size price) is came = subst (IsSaid p b q) (sym is) (spec.size price came.0 came.1 came.2)
 
-  pub conflicts_said : (proof : Proof) → a ≡ record { status = 3; text = budget_text (codes "conflicts") b.conflicts; evidence = SpentOn q (proof_of proof) } →
-      IsCertificate p b q (Conflicts proof) → IsCertified p b q a.status a.text a.evidence
-  conflicts_said proof is came = subst (IsSaid p b q) (sym is) (spec.conflicts (proof_of proof) came.0 came.1)
+  pub conflicts_said : (rank : ℕ) (question : FrameQuestion) (proof : Proof) → program_question question ≡ Some q →
+      a ≡ record { status = 3; text = budget_text (codes "conflicts") b.conflicts; evidence = SpentOnFrame rank question (proof_of proof) } →
+      IsCertificate p b q (Conflicts proof) → IsSaid p b q a
+  conflicts_said rank question proof asked is came =
+      subst (IsSaid p b q) (sym is)
+      (subst (λ (o : Option Question). IsCertified p b q 3 (budget_text (codes "conflicts") b.conflicts) (spent_on o rank question (proof_of proof)))
+      (sym asked) (spec.conflicts (proof_of proof) came.0 came.1))
 
-  pub satisfiable_said : a ≡ plain_answer 1 (line (codes "satisfiable")) → IsCertificate p b q Satisfiable → IsCertified p b q a.status a.text a.evidence
+  pub satisfiable_said : a ≡ plain_answer 1 (line (codes "satisfiable")) → IsCertificate p b q Satisfiable → IsSaid p b q a
   satisfiable_said is came = subst (IsSaid p b q) (sym is) (spec.satisfiable came.0 came.1)
 
   pub refuted_said : (proof : Proof) → a ≡ plain_answer 0 (certificate_text (cnf_of proof.clauses) (lines_of proof.log)) →
-      IsCertificate p b q (Refuted proof) → IsCertified p b q a.status a.text a.evidence
+      IsCertificate p b q (Refuted proof) → IsSaid p b q a
   refuted_said proof is came = subst (IsSaid p b q) (sym is) (spec.certified (proof_of proof) came.0 came.1 came.2)
 
--- so of a question of the frame of a rank
+-- so over frames, of a question of the frame of a rank
 abbrev IsFrameSaid : Whole → (rank : ℕ) → Budget → FrameQuestion → Answer → Type 0
 IsFrameSaid w rank b q a = IsFrameCertified w rank b q a.status a.text a.evidence
 
@@ -134,14 +130,7 @@ module _ (w : Whole) (rank : ℕ) (b : Budget) (q : FrameQuestion) (a : Answer) 
       IsFrameCertificate w rank b q (Refuted proof) → IsFrameCertified w rank b q a.status a.text a.evidence
   refuted_framed proof is came = subst (IsFrameSaid w rank b q) (sym is) (frames.certified (proof_of proof) came.0 came.1 came.2)
 
--- what the script of a question answers
-module _ (p : Program) (layout : Layout) (b : Budget) (q : Question) (a : Answer) where
-  pub exceeded_scripted : (e : past.Exceeded) → a ≡ exceeded_answer b e → IsScripted p layout b q (scripted.Exceeded e) → IsScriptAnswer p layout b q a
-  exceeded_scripted (Points count) is came =
-      too_many_points came.0 (is ∙ ap (λ n. record { status = 3; text = budget_text (codes "points") b.points; evidence = Count n }) came.1)
-  exceeded_scripted (Size price) is came = too_large price came.0 came.1 came.2 is
-
--- so of a question of the frame of a rank
+-- what the script of a question of the frame of a rank answers
 module _ (w : Whole) (rank : ℕ) (layout : Layout) (b : Budget) (q : FrameQuestion) (a : Answer) where
   pub exceeded_frame_scripted : (e : past.Exceeded) → a ≡ exceeded_answer b e → IsFrameScripted w rank layout b q (scripted.Exceeded e) →
       IsFrameScriptAnswer w rank layout b q a

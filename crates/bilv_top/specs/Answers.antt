@@ -1,6 +1,8 @@
 -- Answers, as the definitions have them, and what is met on the way to one.
-use Rattle.std.specs.Prelude.{ℕ, List, [], codes, map}
+use Rattle.std.specs.Prelude.{ℕ, List, [], Option, Some, None, codes, map}
 use Rattle.call_spec.specs.Calls as spec
+use Rattle.call_spec.specs.Framed as framed
+use Rattle.clause_spec.specs.Refutation.{Proof}
 use Rattle.notes_spec.specs.Verified.{elf_fault_text}
 use Rattle.bilv_spec.specs.Answers.{budget_text}
 use Rattle.bilv_spec.specs.ElfFaults.{ShortFile, BadMagic, BadClass, BadData, BadVersion, BadType, BadMachine, BadHeaderTable, BadSegmentRange, BadFileSize, SegmentsOverlap, BadSymbolTable}
@@ -43,6 +45,20 @@ evidence_of (SpentOnPair question proof) = spec.SpentOnPair (pair_question_of qu
 -- an answer
 abbrev pub answer_of : Answer → spec.Answer
 answer_of a = record { status = a.status; text = a.text.items; evidence = evidence_of a.evidence }
+
+-- What shows an answer about the one frame of notes without invariants and contracts, as what shows one about their program: a question of the frame that spent
+-- its conflicts, if it is one of a program, is named as that.
+abbrev pub spent_on : Option spec.Question → (rank : ℕ) → framed.Question → Proof → spec.Evidence
+spent_on (Some kind) rank question proof = spec.SpentOn kind proof
+spent_on None rank question proof = spec.SpentOnFrame rank question proof
+
+abbrev pub program_evidence : spec.Evidence → spec.Evidence
+program_evidence (spec.SpentOnFrame rank question proof) = spent_on (spec.program_question question) rank question proof
+program_evidence other = other
+
+-- such an answer as one about the program
+abbrev pub program_answer : spec.Answer → spec.Answer
+program_answer a = record a { evidence = program_evidence a.evidence }
 
 -- the answer where a budget is exceeded
 abbrev pub exceeded_answer : spec.Budget → Exceeded → spec.Answer

@@ -3,11 +3,14 @@ use Rattle.std.specs.Prelude.{ℕ, ◌≡◌, All, List, [], ◌∷◌, Option, 
 use Rattle.std.specs.Option.{option_map}
 use Rattle.std.specs.List.Sorted.{IsStrictlyIncreasing}
 use Rattle.answer_spec.specs.FrameAnswerLaws.{IsFittedContract}
-use Rattle.answer_spec.specs.FrameAnswers.{asked_rank, dialect_for, IsFrameReported, IsReplayedWhole, IsVerifiedWhole, IsCertifiedWhole, IsScriptWhole}
+use Rattle.answer_spec.specs.FrameAnswers.{ByQuestion, dialect_for, IsReplayedWhole, IsVerifiedWhole, IsCertifiedWhole, IsScriptWhole}
 use Rattle.answer_spec.specs.Outcomes.{IsGraphedWhole}
 use Rattle.bilv_spec.specs.Files.{machine_of, IsFunctionAt}
+use Rattle.bilv_spec.specs.Certified.{IsCertified}
 use Rattle.bilv_spec.specs.Run.{Program}
-use Rattle.call_spec.specs.Calls.{Answer, Options, Surroundings, AfterRead}
+use Rattle.bilv_spec.specs.Scripts.{IsScriptAnswer}
+use Rattle.call_spec.specs.Calls.{Answer, Budget, Options, Surroundings, AfterRead, program_question}
+use Rattle.call_spec.specs.Framed as framed
 use Rattle.frame_spec.specs.Frames as frames
 use Rattle.frame_spec.specs.FrameCertified.{IsFrameCertified}
 use Rattle.frame_spec.specs.FrameScripts.{IsFrameScriptAnswer}
@@ -24,8 +27,6 @@ use Rattle.notes_value.specs.NoteViews.{notes_of}
 use Rattle.notes_value.specs.Reads.{IsReadableContract}
 use Rattle.notes_value.specs.declared.notes.Contract.{Contract}
 use Rattle.bilv_top.specs.Due.{IsOverFile}
-use Rattle.bilv_top.specs.Tasks.{IsDone}
-use Rattle.bilv_top.specs.declared.tasks.Task.{Task}
 use Rattle.bilv_top.specs.declared.framed.Framed.{Framed}
 use Rattle.bilv_top.specs.declared.frame_tasks.FrameTask.{FrameTask}
 use Rattle.bilv_top.specs.declared.frame_tasks.FrameTask.TheVariants.{Report, Graph, Script, Certificate, Replay}
@@ -75,16 +76,30 @@ frame_named (Script question budget frame) = option_map (λ w. w.now) frame
 frame_named (Certificate question budget frame) = option_map (λ w. w.now) frame
 frame_named (Replay name) = None
 
+-- there are invariants, or there are contracts
+abbrev pub HasSome : {T : Type 0} → (invariants : List ℕ) → (contracts : List T) → Type 0
+HasSome invariants contracts = ¬ ((invariants ≡ []) × (contracts ≡ []))
+
+-- the right answer to a question about the frame of a rank: its certificate, and its script
+abbrev pub IsCertifiedAt : Whole → (rank : ℕ) → Budget → framed.Question → Answer → Type 0
+IsCertifiedAt w rank b question a =
+    ByQuestion w.invariants w.contracts (program_question question) (λ kind. IsCertified w.program b kind a.status a.text a.evidence)
+    (IsFrameCertified w rank b question a.status a.text a.evidence)
+
+abbrev pub IsScriptAt : Whole → (rank : ℕ) → Layout → Budget → framed.Question → Answer → Type 0
+IsScriptAt w rank layout b question a =
+    ByQuestion w.invariants w.contracts (program_question question) (λ kind. IsScriptAnswer w.program layout b kind a)
+    (IsFrameScriptAnswer w rank layout b question a)
+
 -- the right answer to a task about a function as one about the frame of a rank, whose state texts have this layout
 abbrev pub IsSegmented : Surroundings → FrameTask → (rank : ℕ) → Layout → Whole → Answer → Type 0
-IsSegmented s (Report budget) rank layout w a = IsFrameReported w layout (budget_of budget) a
+IsSegmented s (Report budget) rank layout w a = IsVerifiedWhole layout (budget_of budget) w a
 IsSegmented s Graph rank layout w a = IsGraphedWhole w a
-IsSegmented s (Script question budget frame) rank layout w a = IsFrameScriptAnswer w rank layout (budget_of budget) (frame_question question) a
-IsSegmented s (Certificate question budget frame) rank layout w a =
-    IsFrameCertified w rank (budget_of budget) (frame_question question) a.status a.text a.evidence
+IsSegmented s (Script question budget frame) rank layout w a = IsScriptAt w rank layout (budget_of budget) (frame_question question) a
+IsSegmented s (Certificate question budget frame) rank layout w a = IsCertifiedAt w rank (budget_of budget) (frame_question question) a
 IsSegmented s (Replay name) rank layout w a = AfterRead s name.now (λ report. IsReplayedWhole layout report w) a
 
--- and about one that may have no frames but that of a program
+-- and as one about the frame that it names
 abbrev pub IsFramedDone : Surroundings → FrameTask → Layout → Whole → Answer → Type 0
 IsFramedDone s (Report budget) layout w a = IsVerifiedWhole layout (budget_of budget) w a
 IsFramedDone s Graph layout w a = IsGraphedWhole w a
@@ -93,18 +108,6 @@ IsFramedDone s (Script question budget frame) layout w a =
 IsFramedDone s (Certificate question budget frame) layout w a =
     IsCertifiedWhole (budget_of budget) (option_map (λ w. w.now) frame) (frame_question question) w a
 IsFramedDone s (Replay name) layout w a = AfterRead s name.now (λ report. IsReplayedWhole layout report w) a
-
--- What is answered to a task of a program is the answer to one over frames, where the invariants and the contracts are these and the frame that is named has a
--- rank; or what is answered to this one itself is.
-abbrev pub IsOfProgram : FrameTask → (invariants : List ℕ) → (contracts : List frames.Contract) → Task → Type 0
-IsOfProgram t invariants contracts plain =
-    (s : Surroundings) (layout : Layout) (w : Whole) (rank : ℕ) (a : Answer) → w.invariants ≡ invariants → w.contracts ≡ contracts →
-    asked_rank w (frame_named t) ≡ Some rank → IsDone s plain layout w.program a → IsFramedDone s t layout w a
-
-abbrev pub IsOfFrames : FrameTask → (invariants : List ℕ) → (contracts : List frames.Contract) → Type 0
-IsOfFrames t invariants contracts =
-    (s : Surroundings) (layout : Layout) (w : Whole) (rank : ℕ) (a : Answer) → w.invariants ≡ invariants → w.contracts ≡ contracts →
-    asked_rank w (frame_named t) ≡ Some rank → IsSegmented s t rank layout w a → IsFramedDone s t layout w a
 
 -- the files that a task names besides the program's
 abbrev pub names_of_frame_task : FrameTask → List (List ℕ)

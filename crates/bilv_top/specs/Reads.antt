@@ -2,7 +2,6 @@
 use Rattle.std.specs.Prelude.{ℕ, List, [], ◌∷◌, ◌++◌, Option, None, Some}
 use Rattle.command_spec.specs.Commands.{Command, Verify, Lift, Graph, Script, Replay, Certify, Check, SelfRun, Upgrade, Model, Equal, Differ, PairNames}
 use Rattle.bilv_top.specs.declared.tasks.Task.{Task}
-use Rattle.bilv_top.specs.declared.tasks.Task.TheVariants as task
 use Rattle.bilv_top.specs.declared.comparing.PairTask.{PairTask}
 use Rattle.bilv_top.specs.declared.comparing.PairTask.TheVariants as pair_task
 
@@ -31,10 +30,7 @@ files_of_line (Some c) = files_of c
 
 -- those that a task names besides the program's
 abbrev pub names_of_task : Task → List (List ℕ)
-names_of_task (task.Report budget) = []
-names_of_task (task.Script question budget) = []
-names_of_task (task.Certificate question budget) = []
-names_of_task (task.Model question budget name) = name.now ∷ []
+names_of_task t = t.values.now ∷ []
 
 -- and besides those of two functions
 abbrev pub names_of_pair_task : PairTask → List (List ℕ)

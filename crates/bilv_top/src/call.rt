@@ -109,7 +109,11 @@ fn obey<H: Shelf>(alloc: Global, command: Command, shelf: &mut H) -> Result<Answ
             elf,
             notes,
             options,
-            Task::Model(question, budget, answer),
+            Task {
+                question,
+                budget,
+                values: answer,
+            },
         ),
         Command::Equal {
             names,

@@ -1,15 +1,15 @@
 //! The answer that certifies a question.
-ghost use Rattle.std.specs.Prelude.{◌≡◌, ◌≤◌, IfOk, length};
+ghost use Rattle.std.specs.Prelude.{◌≡◌, ◌≤◌, Some, IfOk, length};
 ghost use Rattle.std.specs.List.Sorted.{IsStrictlyIncreasing};
-ghost use Rattle.call_spec.specs.Calls.{plain_answer};
-ghost use Rattle.clause_spec.specs.Certificates.{certificate_text};
 ghost use Rattle.bilv_spec.specs.Certified.{IsCertified};
 ghost use Rattle.bilv_spec.specs.Run as tables;
+ghost use Rattle.call_spec.specs.Calls.{Question, plain_answer, program_question};
+ghost use Rattle.clause_spec.specs.Certificates.{certificate_text};
 ghost use Rattle.program_value.specs.Programs.{program_of};
-ghost use Rattle.bilv_top.specs.Answers.{answer_of};
-ghost use Rattle.bilv_top.specs.Frames.{AreContractsOn, AreFitted, whole_with};
+ghost use Rattle.bilv_top.specs.Answers.{answer_of, program_answer};
+ghost use Rattle.bilv_top.specs.Frames.{AreContractsOn, AreFitted, IsCertifiedAt, whole_with};
 ghost use Rattle.cnf_form.specs.Views.{cnf_of, lines_of};
-ghost use Rattle.call_form.specs.Views.{frame_question, kind_of};
+ghost use Rattle.call_form.specs.Views.{frame_question};
 ghost use Rattle.command_line.specs.Commands.{budget_of};
 ghost use Rattle.frame_spec.specs.FrameCertified.{IsFrameCertified};
 ghost use Rattle.frame_spec.specs.FrameVerdict.{Whole};
@@ -19,17 +19,18 @@ ghost use Rattle.verdict.specs.Verdicts.{IsCertificate};
 
 use crate::answer::{Answer, Evidence};
 use crate::framed::Framed;
+use crate::plain::as_due;
 use crate::reading::answer;
 use crate::reports::{beyond, exceeded};
 use cnf_form::{Proof, print_cnf};
-use command_line::{Asked, Budget, Kind};
+use command_line::{Asked, Budget};
 use exit_status::{DONE, FAILS};
 use frame_verdict::certify_frame;
 use machine_law::Machine;
 use program_value::Program;
 use refutation_checker::print_lrat;
 use std::alloc::{AllocError, Global};
-use verdict::{Certified, certify as certificate_of};
+use verdict::Certified;
 
 /// The text of a certificate. The error is want of memory.
 fn proof_text(alloc: Global, proof: &Proof) -> Result<Vec<u8>, AllocError>
@@ -52,41 +53,6 @@ fn print_proof(alloc: Global, proof: &Proof) -> Result<Answer, AllocError>
     })
 }
 
-/// The answer to what a question comes to within budgets. The error is want of memory.
-fn say(
-    alloc: Global,
-    budget: Budget,
-    question: Kind,
-    certified: Certified,
-) -> Result<Answer, AllocError>
-    ensures { IfOk result (λ a. (p : tables.Program) → IsCertificate p (budget_of budget) (kind_of question) certified →
-        IsCertified p (budget_of budget) (kind_of question) (answer_of a).status (answer_of a).text (answer_of a).evidence) }
-{
-    match certified {
-        Certified::Exceeded(past) => beyond(alloc, budget, past),
-        Certified::Conflicts(proof) => {
-            let spent = Evidence::SpentOn { question, proof };
-            exceeded(alloc, b"conflicts", budget.conflicts, spent)
-        }
-        Certified::Satisfiable => answer(alloc, FAILS, b"satisfiable\n"),
-        Certified::Refuted(proof) => print_proof(alloc, &proof),
-    }
-}
-
-/// The answer to a question about a program of a machine. The error is want of memory.
-pub fn certify_by<M: Machine>(
-    alloc: Global,
-    program: &Program<M>,
-    budget: Budget,
-    question: Kind,
-) -> Result<Answer, AllocError>
-    ensures { IfOk result (λ a. IsCertified (program_of program.now) (budget_of budget)
-        (kind_of question) (answer_of a).status (answer_of a).text (answer_of a).evidence) }
-{
-    let certified = certificate_of::<M>(alloc, program, &budget, question)?;
-    say(alloc, budget, question, certified)
-}
-
 /// The answer to what a question of the frame of a rank comes to within budgets. The error is want of memory.
 fn say_frame(
     alloc: Global,
@@ -95,8 +61,12 @@ fn say_frame(
     question: Asked,
     certified: Certified,
 ) -> Result<Answer, AllocError>
-    ensures { IfOk result (λ a. (w : Whole) → IsFrameCertificate w rank (budget_of budget) (frame_question question) certified →
+    ensures framed { IfOk result (λ a. (w : Whole) → IsFrameCertificate w rank (budget_of budget) (frame_question question) certified →
         IsFrameCertified w rank (budget_of budget) (frame_question question) (answer_of a).status (answer_of a).text (answer_of a).evidence) }
+    // Of the one frame of a program it is the answer to a question of the program, if it is told as that.
+    ensures plain { IfOk result (λ a. (p : tables.Program) (kind : Question) → program_question (frame_question question) ≡ Some kind →
+        IsCertificate p (budget_of budget) kind certified →
+        let told = program_answer (answer_of a) in IsCertified p (budget_of budget) kind told.status told.text told.evidence) }
 {
     match certified {
         Certified::Exceeded(past) => beyond(alloc, budget, past),
@@ -127,13 +97,14 @@ pub fn certify_frames_by<M: Machine>(
     requires contracts { AreContractsOn M.machine framed.now.contracts.items }
     requires fitted { AreFitted (whole_with (program_of program.now) framed.now) }
     requires rank { rank ≤ length framed.now.contracts.items }
-    ensures { IfOk result (λ a. IsFrameCertified (whole_with (program_of program.now) framed.now) rank (budget_of budget) (frame_question question)
-        (answer_of a).status (answer_of a).text (answer_of a).evidence) }
+    ensures { IfOk result (λ a. IsCertifiedAt (whole_with (program_of program.now) framed.now) rank (budget_of budget) (frame_question question)
+        (answer_of a)) }
 {
     let invariants = framed.invariants.as_slice();
     let contracts = framed.contracts.as_slice();
     let certified = certify_frame::<M>(
         alloc, program, invariants, contracts, rank, &budget, question,
     )?;
-    say_frame(alloc, budget, rank, question, certified)
+    let answer = say_frame(alloc, budget, rank, question, certified)?;
+    Ok(as_due(framed, answer))
 }

@@ -1,20 +1,16 @@
 //! What is asked about a function whose notes may have invariants or contracts, and its answer on the machine of the file.
-ghost use Rattle.std.specs.Prelude.{◌≡◌, ◌≤◌, ℕ, List, [], ◌∷◌, Some, IfOk, IfSome, MatchOption, length, map};
+ghost use Rattle.std.specs.Prelude.{◌≡◌, ◌≤◌, ℕ, List, ◌∷◌, IfOk, length};
 ghost use Rattle.bilv_spec.specs.Files.{layout_of, machine_of};
-ghost use Rattle.answer_spec.specs.FrameAnswers.{asked_rank};
-ghost use Rattle.frame_spec.specs.Frames as frames;
 ghost use Rattle.machine_spec.specs.Machine.{IsAtPlace};
 ghost use Rattle.std.specs.List.Sorted.{IsStrictlyIncreasing};
 ghost use Rattle.answer_spec.specs.Outcomes.{AfterWhole};
 ghost use Rattle.command_line.specs.Commands.{options_of};
-ghost use Rattle.notes_value.specs.FrameViews.{contract_of};
 ghost use Rattle.io_edges.specs.Met.{seen};
 ghost use Rattle.io_edges.specs.Begun.{AreBegun};
 ghost use Rattle.program_value.specs.Programs.{program_of};
 ghost use Rattle.bilv_top.specs.Answers.{answer_of};
 ghost use Rattle.bilv_top.specs.Due.{IsOverFile};
-ghost use Rattle.bilv_top.specs.Frames.{AreContractsOver, AreFitted, IsFramedDone, IsOfFrames, IsOfProgram, IsSegmented, frame_named, names_of_frame_task, whole_by, AreContractsOn, whole_with};
-ghost use Rattle.bilv_top.specs.Reads.{names_of_task};
+ghost use Rattle.bilv_top.specs.Frames.{AreContractsOver, AreFitted, IsFramedDone, IsSegmented, names_of_frame_task, whole_by, AreContractsOn, whole_with};
 
 use crate::answer::{Answer, Step};
 use crate::asked::rank_asked;
@@ -26,7 +22,6 @@ use crate::machines::{layout, on_machine};
 use crate::reading::answer;
 use crate::replay::replay_frames_by;
 use crate::script::script_frames_by;
-use crate::tasks::{Task, answer_on};
 use crate::verify::report_frames_by;
 use arm_lift::Arm;
 use command_line::{Asked, Budget, Options};
@@ -54,44 +49,7 @@ pub enum FrameTask<'a> {
     Replay(&'a str),
 }
 
-/// The same as a task of a program, if it is one where there are neither invariants nor contracts. The graph and the replay of a report are those of frames in
-/// any case, and so is a question about head states.
-fn as_program<'a>(task: FrameTask<'a>) -> Option<Task<'a>>
-    ensures names { IfSome result (λ t. names_of_task t ≡ names_of_frame_task task.entry) }
-    ensures same { MatchOption result ((invariants : List ℕ) (contracts : List frames.Contract) → IsOfFrames task.entry invariants contracts)
-        (IsOfProgram task.entry [] []) }
-{
-    match task {
-        FrameTask::Report(budget) => Some(Task::Report(budget)),
-        FrameTask::Script(question, budget, _) => {
-            let kind = question.program()?;
-            Some(Task::Script(kind, budget))
-        }
-        FrameTask::Certificate(question, budget, _) => {
-            let kind = question.program()?;
-            Some(Task::Certificate(kind, budget))
-        }
-        FrameTask::Graph => None,
-        FrameTask::Replay(_) => None,
-    }
-}
-
-/// The task of a program that is answered to a task about a function with these notes, if it is one.
-fn plain_task<'a>(framed: &Framed, task: FrameTask<'a>) -> Option<Task<'a>>
-    ensures names { IfSome result (λ t. names_of_task t ≡ names_of_frame_task task.entry) }
-    ensures same { MatchOption result (IsOfFrames task.entry framed.now.invariants.items (map contract_of framed.now.contracts.items))
-        (IsOfProgram task.entry framed.now.invariants.items (map contract_of framed.now.contracts.items)) }
-{
-    if !framed.invariants.is_empty() {
-        return None;
-    }
-    if !framed.contracts.is_empty() {
-        return None;
-    }
-    as_program(task)
-}
-
-/// The answer over frames to a task about a function of a machine, whose frame of a rank is asked about. The error is out of memory.
+/// The answer to a task about a function of a machine, whose frame of a rank is asked about. The error is out of memory.
 #[tactic(auto, using(io_edges::proofs::Beginning::begun_none))]
 fn answer_framed_by<M: Machine, H: Shelf>(
     alloc: Global,
@@ -182,38 +140,9 @@ fn answer_segmented_on<H: Shelf>(
     )
 }
 
-/// The answer to a task about a function whose frame of a rank is asked about, as one about a program where it is one. The error is out of memory.
-fn answer_ranked_on<H: Shelf>(
-    alloc: Global,
-    shelf: &mut H,
-    image: &Image,
-    framed: &Framed,
-    options: Options,
-    task: FrameTask,
-    rank: usize,
-) -> Result<Answer, AllocError>
-    requires found { IsOverFile image.now framed.now.found }
-    requires place { IsAtPlace (machine_of (options_of options) image.now).narrow framed.now.found.entry }
-    requires rising { IsStrictlyIncreasing framed.now.invariants.items }
-    requires contracts { AreContractsOver image.now framed.now.contracts.items }
-    requires fitted { AreFitted (whole_by (machine_of (options_of options) image.now) image.now framed.now) }
-    requires rank { rank ≤ length framed.now.contracts.items }
-    requires asked { asked_rank (whole_by (machine_of (options_of options) image.now) image.now framed.now) (frame_named task) ≡ Some rank }
-    ensures keeps { (n : List ℕ) → H.holds shelf.new n ≡ H.holds shelf.old n }
-    ensures never_falls { (n : List ℕ) → H.faults shelf.old n ≤ H.faults shelf.new n }
-    ensures begun { AreBegun (H.begun shelf.old) (H.begun shelf.new) (names_of_frame_task task.entry) }
-    ensures done { IfOk result (λ a. IsFramedDone (seen (H.holds shelf.old) (H.faults shelf.old) (H.faults shelf.new)) task.entry
-        (layout_of (options_of options) image.now) (whole_by (machine_of (options_of options) image.now) image.now framed.now) (answer_of a)) }
-{
-    match plain_task(framed, task) {
-        Some(plain) => answer_on(alloc, shelf, image, &framed.found, options, plain),
-        None => answer_segmented_on(alloc, shelf, image, framed, options, task, rank),
-    }
-}
-
 /// The answer to a task about a function, or that no frame has the name that is asked about. The error is out of memory.
 #[tactic(auto, using(io_edges::proofs::Beginning::begun_none))]
-fn answer_framed_on<H: Shelf>(
+pub fn answer_framed_on<H: Shelf>(
     alloc: Global,
     shelf: &mut H,
     image: &Image,
@@ -234,7 +163,7 @@ fn answer_framed_on<H: Shelf>(
 {
     match rank_asked(alloc, &framed.contracts, task)? {
         None => answer(alloc, NOTES_REFUSED, b"notes: NoFrame\n"),
-        Some(rank) => answer_ranked_on(alloc, shelf, image, framed, options, task, rank),
+        Some(rank) => answer_segmented_on(alloc, shelf, image, framed, options, task, rank),
     }
 }
 

@@ -1,5 +1,5 @@
 //! The inputs of commands that know invariants and contracts: notes over an image that may have them.
-ghost use Rattle.std.specs.Prelude.{◌≡◌, ◌≤◌, ℕ, List, [], ◌∷◌, IfOk, length};
+ghost use Rattle.std.specs.Prelude.{◌≡◌, ◌≤◌, ℕ, List, [], ◌∷◌, true, false, IfOk, length};
 ghost use Rattle.command_line.specs.Commands.{options_of};
 ghost use Rattle.call_spec.specs.Outside.{Agrees};
 ghost use Rattle.notes_spec.specs.Verified as verified;
@@ -7,7 +7,7 @@ ghost use Rattle.notes_spec.specs.Verified.{AfterImage, IsAccepted};
 ghost use Rattle.answer_spec.specs.FrameAnswers.{dialect_for};
 ghost use Rattle.bilv_top.specs.Answers.{IfStep};
 ghost use Rattle.bilv_top.specs.Due.{AreNotesAnsweredIn, IsFramesAnswer};
-ghost use Rattle.bilv_top.specs.Frames.{IsFramedBy};
+ghost use Rattle.bilv_top.specs.Frames.{HasSome, IsFramedBy};
 ghost use Rattle.io_edges.specs.Begun.{AreBegun};
 
 use crate::answer::Step;
@@ -30,6 +30,31 @@ pub struct Framed {
     pub found: Found,
     pub invariants: Vec<u32>,
     pub contracts: Vec<Contract>,
+}
+
+impl Framed {
+    /// Notes without invariants and contracts.
+    pub fn plain(alloc: Global, found: Found) -> Framed
+        ensures found { result.found ≡ found }
+        ensures none { (result.invariants.items ≡ []) × (result.contracts.items ≡ []) }
+    {
+        Framed {
+            found,
+            invariants: Vec::new(alloc),
+            contracts: Vec::new(alloc),
+        }
+    }
+
+    /// Whether they have neither invariants nor contracts.
+    pub fn is_plain(&self) -> bool
+        ensures yes { result ≡ true → (self.now.invariants.items ≡ []) × (self.now.contracts.items ≡ []) }
+        ensures no { result ≡ false → HasSome self.now.invariants.items self.now.contracts.items }
+    {
+        if !self.invariants.is_empty() {
+            return false;
+        }
+        self.contracts.is_empty()
+    }
 }
 
 /// The notes that a text says over an image, with their invariants and contracts, by some options of the image, and the address of their function, or the answer

@@ -18,6 +18,7 @@ mod lift;
 mod machines;
 mod model;
 mod pair;
+mod plain;
 mod program;
 mod reading;
 mod replay;

@@ -1,32 +1,29 @@
 //! The answer that prints the script of a question.
 ghost use Rattle.std.specs.Prelude.{◌≡◌, ◌≤◌, ℕ, string_bytes, IfOk, length};
 ghost use Rattle.std.specs.List.Sorted.{IsStrictlyIncreasing};
-ghost use Rattle.call_spec.specs.Calls.{plain_answer, Question as AskedQuestion};
-ghost use Rattle.bilv_spec.specs.Run as tables;
-ghost use Rattle.bilv_spec.specs.Scripts.{IsScriptAnswer};
+ghost use Rattle.call_spec.specs.Calls.{plain_answer};
 ghost use Rattle.machine_spec.specs.StateText as texts;
 ghost use Rattle.program_value.specs.Programs.{program_of};
 ghost use Rattle.bilv_top.specs.Answers.{answer_of};
-ghost use Rattle.bilv_top.specs.Frames.{AreContractsOn, AreFitted, whole_with};
-ghost use Rattle.call_form.specs.Views.{frame_question, kind_of};
+ghost use Rattle.bilv_top.specs.Frames.{AreContractsOn, AreFitted, IsScriptAt, whole_with};
+ghost use Rattle.call_form.specs.Views.{frame_question};
 ghost use Rattle.command_line.specs.Commands.{budget_of};
 ghost use Rattle.frame_spec.specs.FrameScripts.{IsFrameScriptAnswer};
 ghost use Rattle.frame_spec.specs.FrameQuestions.{Question as FrameQuestion};
 ghost use Rattle.frame_spec.specs.FrameVerdict.{Whole};
 ghost use Rattle.frame_verdict.specs.FrameScripted.{IsFrameScripted};
 ghost use Rattle.machine_spec.specs.Machine.{IsAtPlace};
-ghost use Rattle.verdict.specs.Verdicts.{IsScripted};
 
 use crate::answer::{Answer, Evidence};
 use crate::framed::Framed;
 use crate::reports::beyond;
-use command_line::{Asked, Budget, Kind};
+use command_line::{Asked, Budget};
 use exit_status::DONE;
 use frame_verdict::script_frame;
 use machine_law::Machine;
 use program_value::Program;
 use std::alloc::{AllocError, Global};
-use verdict::{Scripted, script as script_of};
+use verdict::Scripted;
 
 /// The answer that prints a script.
 fn printed(text: String) -> Answer
@@ -37,31 +34,6 @@ fn printed(text: String) -> Answer
         text: text.into_bytes(),
         evidence: Evidence::None,
     }
-}
-
-/// The answer to what the script of a question comes to within budgets. The error is want of memory.
-fn say(alloc: Global, budget: Budget, scripted: Scripted) -> Result<Answer, AllocError>
-    ensures { IfOk result (λ a. (p : tables.Program) (layout : texts.Layout) (question : AskedQuestion) → IsScripted p layout (budget_of budget) question scripted →
-        IsScriptAnswer p layout (budget_of budget) question (answer_of a)) }
-{
-    match scripted {
-        Scripted::Exceeded(past) => beyond(alloc, budget, past),
-        Scripted::Script(text) => Ok(printed(text)),
-    }
-}
-
-/// The answer that prints the script of a question about a program of a machine. The error is want of memory.
-pub fn script_by<M: Machine>(
-    alloc: Global,
-    program: &Program<M>,
-    budget: Budget,
-    question: Kind,
-) -> Result<Answer, AllocError>
-    ensures { IfOk result (λ a. IsScriptAnswer (program_of program.now) M.form (budget_of budget)
-        (kind_of question) (answer_of a)) }
-{
-    let scripted = script_of::<M>(alloc, program, &budget, question)?;
-    say(alloc, budget, scripted)
 }
 
 /// The answer to what the script of a question of the frame of a rank comes to within budgets. The error is want of memory.
@@ -91,7 +63,7 @@ pub fn script_frames_by<M: Machine>(
     requires contracts { AreContractsOn M.machine framed.now.contracts.items }
     requires fitted { AreFitted (whole_with (program_of program.now) framed.now) }
     requires rank { rank ≤ length framed.now.contracts.items }
-    ensures { IfOk result (λ a. IsFrameScriptAnswer (whole_with (program_of program.now) framed.now) rank M.form (budget_of budget) (frame_question question)
+    ensures { IfOk result (λ a. IsScriptAt (whole_with (program_of program.now) framed.now) rank M.form (budget_of budget) (frame_question question)
         (answer_of a)) }
 {
     let invariants = framed.invariants.as_slice();

@@ -11,9 +11,10 @@ ghost use Rattle.command_line.specs.Commands.{budget_of};
 ghost use Rattle.io_edges.specs.Begun.{AreBegun};
 
 use crate::answer::{Answer, Step};
+use crate::frame_tasks::{FrameTask, answer_framed_on};
+use crate::framed::Framed;
 use crate::inputs::{NOTES_LIMIT, find_program, refuse_elf};
 use crate::reading::answer;
-use crate::tasks::{Task, answer_on};
 use command_line::{Budget, Options};
 use elf32_reader::read_image;
 use exit_status::NOTES_REFUSED;
@@ -46,8 +47,9 @@ fn verify_bytes<H: Shelf>(
     let options = Options::standard();
     match find_program(alloc, &image, notes, options)? {
         Step::Go(found) => {
-            let task = Task::Report(budget);
-            answer_on(alloc, shelf, &image, &found, options, task)
+            let framed = Framed::plain(alloc, found);
+            let task = FrameTask::Report(budget);
+            answer_framed_on(alloc, shelf, &image, &framed, options, task)
         }
         Step::Answered(answer) => Ok(answer),
     }

@@ -13,14 +13,11 @@ ghost use Rattle.io_edges.specs.Begun.{AreBegun};
 ghost use Rattle.bilv_top.specs.Reads.{names_of_task};
 
 use crate::answer::{Answer, Step};
-use crate::certify::certify_by;
 use crate::inputs::{Found, program_on, read_elf, read_program};
 use crate::machines::{layout, on_machine};
 use crate::model::model_by;
-use crate::script::script_by;
-use crate::verify::report_by;
 use arm_lift::Arm;
-use command_line::{Asked, Budget, Kind, Options};
+use command_line::{Asked, Budget, Options};
 use elf32_reader::Image;
 use io_edges::Shelf;
 use machine_law::Machine;
@@ -29,17 +26,13 @@ use rv_lift::Rv32;
 use start_value::{Layout, Profile};
 use std::alloc::{AllocError, Global};
 
-/// What is asked about a program.
+/// What is asked about a program: whether a question is true of the values of a name, within budgets.
 #[derive(Clone, Copy)]
-pub enum Task<'a> {
-    /// The report of its verdict within budgets.
-    Report(Budget),
-    /// The script of a question, within budgets.
-    Script(Kind, Budget),
-    /// The certificate of a question, within budgets.
-    Certificate(Kind, Budget),
-    /// Whether a question is true of the values of this name, within budgets.
-    Model(Asked, Budget, &'a str),
+pub struct Task<'a> {
+    pub question: Asked,
+    pub budget: Budget,
+    /// The name of the file with the values.
+    pub values: &'a str,
 }
 
 /// The answer to a task about a program of a machine. The error is out of memory.
@@ -56,14 +49,14 @@ fn answer_by<M: Machine, H: Shelf>(
     ensures done { IfOk result (λ a. IsDone (seen (H.holds shelf.old) (H.faults shelf.old) (H.faults shelf.new)) task.entry M.form
         (program_of program.now) (answer_of a)) }
 {
-    match task {
-        Task::Report(budget) => report_by::<M>(alloc, program, budget),
-        Task::Script(question, budget) => script_by::<M>(alloc, program, budget, question),
-        Task::Certificate(question, budget) => { certify_by::<M>(alloc, program, budget, question) }
-        Task::Model(question, budget, name) => {
-            model_by::<M, H>(alloc, shelf, program, budget, question, name)
-        }
-    }
+    model_by::<M, H>(
+        alloc,
+        shelf,
+        program,
+        task.budget,
+        task.question,
+        task.values,
+    )
 }
 
 /// The same, of the machine that a file is of by some options.
@@ -90,7 +83,7 @@ fn answer_of_machine<M: Machine, H: Shelf>(
 }
 
 /// The answer to a task about a program. The error is out of memory.
-pub fn answer_on<H: Shelf>(
+fn answer_on<H: Shelf>(
     alloc: Global,
     shelf: &mut H,
     image: &Image,

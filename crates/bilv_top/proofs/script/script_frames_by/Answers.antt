@@ -7,7 +7,10 @@ use Rattle.frame_verdict.specs.FrameFunctions.{IsCallable}
 use Rattle.notes_value.specs.FrameViews.{contract_of}
 use Rattle.notes_value.specs.declared.notes.Contract.{Contract}
 use Rattle.program_value.specs.Programs.{program_of}
+use Rattle.bilv_top.specs.Answers.{answer_of}
 use Rattle.bilv_top.specs.Frames.{whole_with}
+use Rattle.frame_verdict.proofs.PlainScripts.{plain_scripts}
+use Rattle.bilv_top.proofs.PlainAnswers.{scripted_due}
 use Rattle.bilv_top.proofs.Founds.{callable_contracts, whole_same}
 use Rattle.bilv_top.proofs.script.script_frames_by.Goals as goal
 
@@ -26,5 +29,7 @@ returns g c =
     let scripted = whole_same (λ w. IsFrameScripted w c.args.rank g.M.Machine.form (budget_of c.args.budget) q c.in_ok-scripted.scripted)
     (program_of c.args.program.now) f c.as_slice-invariants.result.now c.as_slice-contracts.result.now c.as_slice-invariants.ensures.value
     c.as_slice-contracts.ensures.value c.in_ok-scripted.ensures in
+    let w = whole_with (program_of c.args.program.now) f in
     IfOk-weaker c.say_frame.result _ _
-    (λ a said. said (whole_with (program_of c.args.program.now) f) c.args.rank g.M.Machine.form q scripted) c.say_frame.ensures
+    (λ a said. scripted_due plain_scripts w c.args.rank g.M.Machine.form (budget_of c.args.budget) q (answer_of a)
+    (said w c.args.rank g.M.Machine.form q scripted)) c.say_frame.ensures
