@@ -1,0 +1,6 @@
+pub mod Accepted
+pub mod Headers
+pub mod Listing
+pub mod Roots
+pub mod Standing
+pub mod Steady

@@ -1,0 +1,4 @@
+pub mod Appends
+pub mod Parting
+pub mod SpellingLaws
+pub mod LineLaws

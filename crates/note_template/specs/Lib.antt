@@ -1,0 +1,4 @@
+pub mod Templates
+pub mod TemplateLines
+pub mod Views
+pub mod Forms

@@ -1,0 +1,2 @@
+pub mod Suites
+pub mod Views

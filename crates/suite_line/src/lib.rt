@@ -1,0 +1,7 @@
+//! The command line of `bilv_suite`, read through `clap`.
+#![tactic(auto)]
+
+mod program;
+mod reader;
+
+pub use reader::read_request;

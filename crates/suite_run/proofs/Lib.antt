@@ -1,0 +1,5 @@
+pub mod Answered
+pub mod SuiteEnds
+pub mod Faults
+pub mod SoFar
+pub mod Wider

@@ -1,0 +1,9 @@
+pub mod Answers
+pub mod Chosen
+pub mod Ends
+pub mod LoadViews
+pub mod Loads
+pub mod Requests
+pub mod Runs
+pub mod Steps
+pub mod Views

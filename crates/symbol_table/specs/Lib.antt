@@ -1,0 +1,3 @@
+pub mod Symbols
+pub mod Views
+pub mod Founds
