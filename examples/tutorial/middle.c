@@ -1,0 +1,4 @@
+unsigned middle(unsigned low, unsigned high)
+{
+    return low + (high - low) / 2;
+}
