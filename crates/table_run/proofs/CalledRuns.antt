@@ -220,7 +220,7 @@ module _ (f : Frame) (k : ℕ) (start : Start) (calls : List WrittenCall)
         ap (one_more f k start) r.goes ∙ more_is stands
         ∙ ap (λ h. after_step k turns n c.state.pc (turned stands f start.state c h (start.given n))) (sym drawn)
 
-    next_as : (y : FrameStep) → x ≡ y → run f k start (suc n) ≡ after_step k turns n at y
+    pub next_as : (y : FrameStep) → x ≡ y → run f k start (suc n) ≡ after_step k turns n at y
     next_as y is = next ∙ ap (after_step k turns n c.state.pc) is ∙ ap (λ a. after_step k turns n a y) (sym here_is)
 
     wrong_is : (s : Stand) → wrong_at f start calls n (standing s turns n c) ≡ turned_wrong s f start.state c (block_at calls n) (start.given n) n
@@ -296,12 +296,12 @@ module _ (f : Frame) (k : ℕ) (start : Start) (calls : List WrittenCall)
       onto_is stand.Row z h = ap (λ a. arrive Going (nat_le a at) k turns n at on.d) (sym to_is) ∙ h Going
       onto_is stand.Contract z h = ap (λ a. arrive Calling (nat_le a at) k turns n at on.d) (sym to_is) ∙ h Calling
 
+      pub turned_out : tables.arrive (nat_le to at) k turns n at on.d ≡ tables.Turned at n → run f k start (suc n) ≡ Turned at n
+      turned_out out = next_as (onto s on.d) on.comes ∙ onto_is s (Turned at n) (λ next. arrives_turned next (nat_le to at) k turns n at on.d out)
+
       pub turns_out : (last : ℕ) → n ≤ last → (e : CalledEnding) → tables.arrive (nat_le to at) k turns n at on.d ≡ tables.Turned at n →
           IsEnded (block_after calls n) (ending.Turned at n) e → IsRun f k start calls last (record { called = b; ending = e })
-      turns_out last le e out same =
-          over_end last le e (Turned at n) tt
-          (next_as (onto s on.d) on.comes ∙ onto_is s (Turned at n) (λ next. arrives_turned next (nat_le to at) k turns n at on.d out))
-          on.right (ending.Turned at n) refl refl same
+      turns_out last le e out same = over_end last le e (Turned at n) tt (turned_out out) on.right (ending.Turned at n) refl refl same
 
       module _ (more : ℕ) (stays : tables.arrive (nat_le to at) k turns n at on.d ≡ tables.Going more (n + 1) on.d) where
         stands_at : (s : Stand) → after_step k turns n at (onto s on.d) ≡ standing s more (n + 1) on.d

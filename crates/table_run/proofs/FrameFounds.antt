@@ -49,7 +49,7 @@ module _ (f : Frame) (k : ℕ) (s : Start) where
   module _ (turns n last choice at : ℕ) (c : Place) (drawn : choice ≡ s.choices n) (here : at ≡ c.state.pc)
       (going : run f k s n ≡ Going turns n c) where
     -- the run after this step
-    next : (r : Run) → after_step k turns n c.state.pc (frame_step f s.state c choice) ≡ r → run f k s (suc n) ≡ r
+    pub next : (r : Run) → after_step k turns n c.state.pc (frame_step f s.state c choice) ≡ r → run f k s (suc n) ≡ r
     unfolding run
     next r is = ap (one_more f k s) going ∙ ap (λ h. after_step k turns n c.state.pc (frame_step f s.state c h)) (sym drawn) ∙ is
 
@@ -84,10 +84,13 @@ module _ (f : Frame) (k : ℕ) (s : Start) where
             ∙ sym (ap (λ a. arrive Going (nat_le to a) k turns n a d) here)
             ∙ h
 
-        pub found_turn : n ≤ last → tables.arrive (nat_le to at) k turns n at d ≡ tables.Turned at n → FoundTurn at n ≡ found_within f k s last
-        found_turn le h =
+        pub turned_out : tables.arrive (nat_le to at) k turns n at d ≡ tables.Turned at n → run f k s (suc n) ≡ Turned at n
+        turned_out h =
             let same : arrive Going (nat_le to at) k turns n at d ≡ Turned at n = arrive_same (nat_le to at) k turns n at d ∙ ap as_frame_run h in
-            sym (over_within (Turned at n) n last tt (next (Turned at n) (arrived (Turned at n) same)) le)
+            next (Turned at n) (arrived (Turned at n) same)
+
+        pub found_turn : n ≤ last → tables.arrive (nat_le to at) k turns n at d ≡ tables.Turned at n → FoundTurn at n ≡ found_within f k s last
+        found_turn le h = sym (over_within (Turned at n) n last tt (turned_out h) le)
 
         pub one_step : (more : ℕ) → tables.arrive (nat_le to at) k turns n at d ≡ tables.Going more (n + 1) d → run f k s (n + 1) ≡ Going more (n + 1) d
         one_step more h =

@@ -2,6 +2,7 @@ pub mod Lists
 pub mod Memories
 pub mod Hits
 pub mod Stepped
+pub mod Left
 pub mod Founds
 pub mod FrameFounds
 pub mod FrameSteps
@@ -28,8 +29,12 @@ pub mod LinesMeant
 pub mod ContractSteps
 pub mod CalledRows
 pub mod SeenSteps
+pub mod Watching
 pub mod CalledRuns
+pub mod WatchedRuns
+pub mod WatchedFrames
 pub mod Ranks
+pub mod WholeRuns
 pub mod RankedEntries
 pub mod ShownLists
 pub mod ShownSteps

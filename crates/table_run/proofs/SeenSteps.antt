@@ -1,5 +1,5 @@
 -- Steps from places that no machine can tell apart.
-use Rattle.std.proofs.Common.{◌≡◌, ℕ, ◌^◌, ◌<◌, List, [], ◌∷◌, ◌++◌, length, map, Bool, true, false, Option, Some, None, refl, sym, ap, ◌∙◌, subst, arith}
+use Rattle.std.proofs.Common.{inl, ◌≡◌, ℕ, ◌^◌, ◌<◌, List, [], ◌∷◌, ◌++◌, length, map, Bool, true, false, Option, Some, None, refl, sym, ap, ◌∙◌, subst, arith}
 use Rattle.std.specs.Prelude.{◌==◌, ◌&&◌, is_some, nat_eq, nat_lt, not, if◌then◌else◌}
 use Rattle.std.specs.Option.{option_map}
 use Rattle.std.specs.List.{list_all, list_any}
@@ -9,22 +9,23 @@ use Rattle.word_spec.specs.Words.{add}
 use Rattle.word_spec.specs.Memory.{Endian}
 use Rattle.word_spec.specs.RowFiles.{from_to}
 use Rattle.word_spec.specs.State.{State, IsState}
-use Rattle.machine_spec.specs.Machine.{Row, addresses}
-use Rattle.machine_spec.specs.MachineLaws.{IsLawful, with_memory}
+use Rattle.machine_spec.specs.Machine.{Row, Outcome, Goes, Raises, addresses}
+use Rattle.machine_spec.specs.MachineLaws.{IsLawful, SameButMemory, with_memory}
 use Rattle.machine_spec.proofs.LoadedBytes.{loaded_small}
 use Rattle.bilv_spec.specs.Elf.{is_kept}
 use Rattle.bilv_spec.specs.Notes.{value}
 use Rattle.bilv_spec.specs.Points.{file_row}
 use Rattle.bilv_spec.specs.PointLaws.{HasLawfulRows, ReadsMemory}
 use Rattle.bilv_spec.specs.Questions.{by_file}
-use Rattle.bilv_spec.specs.Run.{Program, Place, Step, Stops, Arrives, Exits, false_line, step}
+use Rattle.bilv_spec.specs.Run.{Program, Place, Step, Stops, Arrives, Exits, false_assert, false_line, step}
 use Rattle.bilv_spec.proofs.FileWords.{ArrivesIn, Sound, every, row_same, step_in, step_same}
 use Rattle.frame_spec.specs.Frames.{Content, Contract, Frame, Writes, contract_at, has_changed, is_outside, keeps_flag, keeps_register, stored_by_row, written}
 use Rattle.frame_spec.specs.FrameRuns.{FrameStep, Halts, GoesTo, Reaches, Calls, Leaves, Breaks, contract_by, contract_step, frame_step, given_by, is_contract_call, lands, leaves_by, links_by, needs_by, returns_by, row_of_place, state_after, unless_outside, writes_by}
 use Rattle.frame_spec.specs.FrameReports.{WrittenCall}
 use Rattle.frame_texts_spec.specs.CallReplays.{is_block_of, may_write_by, none_there, wrong_by, given_wrong, WrongAt, BreaksLine}
-use Rattle.model_spec.proofs.Alike.{lines_same, value_same}
+use Rattle.model_spec.proofs.Alike.{asserts_same, lines_same, value_same}
 use Rattle.model_spec.proofs.AlikeSteps.{Both, StepBoth, step_both}
+use Rattle.trace_spec.specs.Seen.{left_by_assert, left_by_outcome, left_by_row, left_in, stored_of}
 use Rattle.table_run.specs.FrameEnds.{HasKept}
 use Rattle.table_run.specs.declared.ending.CalledStepEnd.{CalledStepEnd}
 use Rattle.table_run.specs.declared.ending.CalledStepEnd.TheVariants as end
@@ -216,6 +217,65 @@ module _ (p : Program) (stepped : List Contract) (own : Option Contract) where
     pub row_turned : (choice : ℕ) (e : CalledStepEnd) (state : State) (after : List ℕ) (n : ℕ) → IsRowEnd e state after (frame_step f entry d choice) →
         IsTurnEnd e p state after n (frame_step f entry c choice) None
     row_turned choice e state after n is = row_end e state after n (frame_step f entry c choice) (frame_step f entry d choice) (frame_both choice) is
+
+    -- ---- what the row leaves
+
+    stored_of_same : (o : Option Row) → file_row q c.state.pc ≡ o → stored_of o c.state ≡ stored_of o now
+    stored_of_same None is = refl
+    stored_of_same (Some row) is =
+        let law : IsLawful row = lawful c.state.pc row is in
+        let only = law.loads c.state now.mem 0 at.is_state other_state
+        (λ a i. at.seen.mem a (loaded_small (row.loaded c.state) a (law.loads_at c.state at.is_state) i)) in
+        only.1 ∙ ap row.stored (sym at.seen.rest)
+
+    abbrev by_rows : row_of_place f c ≡ file_row q c.state.pc
+    by_rows = row_same q memory c.state sound_c.0 c.state.pc
+
+    pub stores_same : stored_of (row_of_place f c) c.state ≡ stored_of (row_of_place f d) now
+    stores_same =
+        ap (λ o. stored_of o c.state) by_rows ∙ stored_of_same (file_row q c.state.pc) refl ∙ ap (λ o. stored_of o now) (sym by_rows ∙ rows_same)
+
+    pub places_same : stored_by_row (row_of_place f c) c.state ≡ stored_by_row (row_of_place f d) now
+    places_same =
+        ap (λ o. stored_by_row o c.state) by_rows ∙ stored_same (file_row q c.state.pc) refl ∙ ap (λ o. stored_by_row o now) (sym by_rows ∙ rows_same)
+
+    asserts_are : false_assert q.machine.endian q.notes.asserts c.state entry ≡ false_assert q.machine.endian q.notes.asserts now entry
+    asserts_are =
+        asserts_same all q.machine.endian c.state entry now.mem entry.mem (λ a l h. at.seen.mem a l) (λ a l h. refl) q.notes.asserts (λ a i. tt)
+        ∙ ap (λ (z : State). false_assert q.machine.endian q.notes.asserts z entry) (sym at.seen.rest)
+
+    outcome_left : (places : List ℕ) (o r : Outcome) → SameButMemory c.state now.mem places o r → IsSeenAs (left_by_outcome c.state o) (left_by_outcome now r)
+    outcome_left places (Raises x) (Raises y) same = at.seen
+    outcome_left places (Goes how x) (Raises y) same = absurd same
+    outcome_left places (Raises x) (Goes how y) same = absurd same
+    outcome_left places (Goes how x) (Goes other y) same =
+        let is : with_memory x y.mem ≡ y = λ i. record { pc = same.1 i; regs = same.2 i; flags = same.3 i; mem = y.mem } in record {
+          rest = sym is;
+          mem = λ a low. same.4 a low (inl (at.seen.mem a low));
+        }
+
+    row_left : (choice : ℕ) (o : Option Row) → file_row q c.state.pc ≡ o → IsSeenAs (left_by_row o c.state choice) (left_by_row o now choice)
+    row_left choice None is = at.seen
+    row_left choice (Some row) is =
+        let law : IsLawful row = lawful c.state.pc row is in
+        let only = law.loads c.state now.mem choice at.is_state other_state
+        (λ a i. at.seen.mem a (loaded_small (row.loaded c.state) a (law.loads_at c.state at.is_state) i)) in
+        subst (λ (z : State). IsSeenAs (left_by_outcome c.state (row.effect c.state choice)) (left_by_outcome now (row.effect z choice))) (sym at.seen.rest)
+        (outcome_left (addresses (row.stored c.state)) (row.effect c.state choice) (row.effect (with_memory c.state now.mem) choice) only.2)
+
+    assert_left : (x y : State) → IsSeenAs x y → (o : Option ℕ) → IsSeenAs (left_by_assert o c.state x) (left_by_assert o now y)
+    assert_left x y both (Some line) = at.seen
+    assert_left x y both None = both
+
+    pub left_alike : (choice : ℕ) → IsSeenAs (left_in q entry c.state choice) (left_in q entry now choice)
+    left_alike choice =
+        let rows : IsSeenAs (left_by_row (row_of_place f c) c.state choice) (left_by_row (row_of_place f d) now choice) =
+        subst (λ r. IsSeenAs (left_by_row (row_of_place f c) c.state choice) (left_by_row r now choice)) (sym by_rows ∙ rows_same)
+        (subst (λ r. IsSeenAs (left_by_row r c.state choice) (left_by_row (file_row q c.state.pc) now choice)) (sym by_rows)
+        (row_left choice (file_row q c.state.pc) refl)) in
+        subst (λ o. IsSeenAs (left_in q entry c.state choice) (left_by_assert o now (left_by_row (row_of_place f d) now choice))) asserts_are
+        (assert_left (left_by_row (row_of_place f c) c.state choice) (left_by_row (row_of_place f d) now choice) rows
+        (false_assert q.machine.endian q.notes.asserts c.state entry))
 
   -- ---- a contract step
 

@@ -8,4 +8,6 @@ pub mod FrameEnds
 pub mod Spans
 pub mod CalledFrames
 pub mod CalledRuns
+pub mod Watching
+pub mod WatchedRuns
 pub mod MadeCalls

@@ -1,5 +1,5 @@
 //! A run of a frame that steps over contracts.
-ghost use Rattle.std.specs.Prelude.{◌≡◌, ℕ, ◌≤◌, ◌<◌, ◌+◌, ◌-◌, ◌||◌, All, AllPairs, IfOk, IfSome, List, Some, map, slice_get, take};
+ghost use Rattle.std.specs.Prelude.{◌≡◌, ℕ, ◌≤◌, ◌<◌, ◌+◌, ◌-◌, ◌||◌, All, AllPairs, IfOk, IfSome, List, [], Some, None, map, slice_get, take};
 ghost use Rattle.bilv_spec.specs.PointLaws.{HasLawfulRows};
 ghost use Rattle.bilv_spec.specs.Points.{is_known_at};
 ghost use Rattle.bilv_spec.specs.Reports as reports;
@@ -17,6 +17,10 @@ ghost use Rattle.table_run.specs.Spans.{bytes_of};
 ghost use Rattle.program_value.specs.Programs.{program_of};
 ghost use Rattle.table_run.specs.FrameEnds.{HasKept};
 ghost use Rattle.table_run.specs.CalledFrames.{IsBlock, IsOwnAt, IsRunnable, called_frame, frame_in, own_of, is_contract, next_of};
+ghost use Rattle.trace_spec.specs.Seen.{seen_steps};
+ghost use Rattle.seen_step.specs.Views.{seen_of};
+ghost use Rattle.table_run.specs.WatchedRuns.{IsLeftIn, IsWatched};
+ghost use Rattle.table_run.specs.Watching.{HasSeen};
 ghost use Rattle.table_run.specs.CalledRuns.{AreChanged, IsEnded, IsFoundAs, IsLast, IsRun, called_start, cause_of, cause_within, frame_of_rank, start_called, whole_in};
 
 use crate::blocks::{block_at, step_after};
@@ -25,6 +29,7 @@ use crate::choices::choice_at;
 use crate::ending::{CalledEnding, CalledRun, CalledStepEnd};
 use crate::frame::{CallFrame, Own};
 use crate::memory::memory_given;
+use crate::observers::{Observer, Watched, later, look_for, note, steps_of};
 use crate::runs::{Limits, next_turns, start_state, turns_within};
 use crate::spans::{Span, writable};
 use byte_mem::View;
@@ -101,7 +106,8 @@ fn calls_here(called: bool, stand: Stand) -> bool
     stand == Stand::Contract
 }
 
-/// What the run of a frame from an entry state comes to within its limits, with the blocks of contract steps. The error is want of memory.
+/// What the run of a frame from an entry state comes to within its limits, with the blocks of contract steps, and the state that its last step leaves; an observer
+/// sees the steps. The error is want of memory.
 fn follow<M: Machine>(
     alloc: Global,
     frame: &CallFrame<M>,
@@ -110,7 +116,8 @@ fn follow<M: Machine>(
     choices: &[(u64, u8)],
     calls: &[CallState],
     limits: Limits,
-) -> Result<CalledRun, AllocError>
+    seen: &mut Observer,
+) -> Result<(CalledRun, M::State), AllocError>
     requires frame { IsRunnable frame.now }
     requires lawful { HasLawfulRows (program_of frame.now.program) }
     requires own { IsOwnAt M.machine.endian frame.now.own (M.State.view entry.now) }
@@ -120,9 +127,13 @@ fn follow<M: Machine>(
     requires calls { AllPairs (λ x y. x.step < y.step) calls.now }
     requires some { 1 ≤ limits.steps }
     requires same { M.State.view state ≡ M.State.view entry.now }
-    ensures { (registers : ℕ → List ℕ) → AreChanged registers (frame_in frame.now).stepped → IfOk result (λ run.
+    ensures run { (registers : ℕ → List ℕ) → AreChanged registers (frame_in frame.now).stepped → IfOk result (λ r.
         IsRun (frame_in frame.now) limits.turns
-        (called_start (M.State.view entry.now) choices.now registers (map written_call_of calls.now)) (map written_call_of calls.now) (limits.steps - 1) run) }
+        (called_start (M.State.view entry.now) choices.now registers (map written_call_of calls.now)) (map written_call_of calls.now) (limits.steps - 1) r.0) }
+    ensures seen { (registers : ℕ → List ℕ) → AreChanged registers (frame_in frame.now).stepped → HasSeen seen.old [] → IfOk result (λ r.
+        IsWatched (frame_in frame.now) M.form limits.turns
+        (called_start (M.State.view entry.now) choices.now registers (map written_call_of calls.now)) limits.steps r.0.ending seen.new
+        (M.State.view r.1)) }
 {
     let mut stack = Vec::new(alloc);
     let mut stand = Stand::Row;
@@ -134,19 +145,28 @@ fn follow<M: Machine>(
         let choice = choice_at(choices, n);
         let block = block_at(calls, n);
         called = calls_here(called, stand);
+        let depth = stack.len();
+        let look = look_for::<M>(alloc, seen, frame, &state, depth, stand, n)?;
         let end = turn::<M>(
             alloc, frame, entry, &mut state, &mut stack, stand, choice, block,
         )?;
+        note::<M>(alloc, seen, &look, &state, later(end, depth, stack.len()))?;
         stand = match next_stand(end) {
-            None => return Ok(last(calls, at, n, called, end)),
+            None => return Ok((last(calls, at, n, called, end), state)),
             Some(next) => next,
         };
         turns = match next_turns(at, state.pc(), turns, limits.turns) {
-            None => return Ok(ended(calls, n, called, CalledEnding::Turned { at, step: n })),
+            None => return Ok((
+                ended(calls, n, called, CalledEnding::Turned { at, step: n }),
+                state,
+            )),
             Some(more) => more,
         };
         if n + 1 == limits.steps {
-            return Ok(ended(calls, n, called, CalledEnding::Left { at, step: n }));
+            return Ok((
+                ended(calls, n, called, CalledEnding::Left { at, step: n }),
+                state,
+            ));
         }
         n += 1;
     }
@@ -207,7 +227,8 @@ pub(crate) fn own<'a>(contracts: &'a [Contract], rank: usize, spans: &'a [Span])
     })
 }
 
-/// What the run of a frame from a state comes to within its limits. The error is want of memory.
+/// What the run of a frame from a state comes to within its limits, and the state that its last step leaves; an observer sees the steps. The error is want
+/// of memory.
 fn run_ranked<M: Machine>(
     alloc: Global,
     frame: &RankedFrame<M>,
@@ -215,16 +236,22 @@ fn run_ranked<M: Machine>(
     choices: &[(u64, u8)],
     calls: &[CallState],
     limits: Limits,
-) -> Result<CalledRun, AllocError>
+    seen: &mut Observer,
+) -> Result<(CalledRun, M::State), AllocError>
     requires kept { HasKept (whole_in frame.now).program (M.State.view state) }
     requires rising { AreRising choices.now }
     requires blocks { All (λ c. IsBlock M.form (written_call_of c)) calls.now }
     requires calls { AllPairs (λ x y. x.step < y.step) calls.now }
     requires some { 1 ≤ limits.steps }
-    ensures { (registers : ℕ → List ℕ) → AreChanged registers (map contract_of (take frame.now.rank frame.now.contracts.now)) → IfOk result (λ run.
+    ensures run { (registers : ℕ → List ℕ) → AreChanged registers (map contract_of (take frame.now.rank frame.now.contracts.now)) → IfOk result (λ r.
         IsRun (called_frame (whole_in frame.now).program (map contract_of (take frame.now.rank frame.now.contracts.now))
         (slice_get (map contract_of frame.now.contracts.now) frame.now.rank)) limits.turns
-        (called_start (M.State.view state) choices.now registers (map written_call_of calls.now)) (map written_call_of calls.now) (limits.steps - 1) run) }
+        (called_start (M.State.view state) choices.now registers (map written_call_of calls.now)) (map written_call_of calls.now) (limits.steps - 1) r.0) }
+    ensures seen { (registers : ℕ → List ℕ) → AreChanged registers (map contract_of (take frame.now.rank frame.now.contracts.now)) →
+        HasSeen seen.old [] → IfOk result (λ r. IsWatched (called_frame (whole_in frame.now).program
+        (map contract_of (take frame.now.rank frame.now.contracts.now)) (slice_get (map contract_of frame.now.contracts.now) frame.now.rank)) M.form
+        limits.turns (called_start (M.State.view state) choices.now registers (map written_call_of calls.now)) limits.steps r.0.ending seen.new
+        (M.State.view r.1)) }
 {
     frame.program.image.bytes();
     let index = index_of(alloc, frame.program.notes)?;
@@ -242,7 +269,7 @@ fn run_ranked<M: Machine>(
         stepped: &frame.contracts[..frame.rank],
         own: own(frame.contracts, frame.rank, &spans),
     };
-    let run = follow::<M>(alloc, &called, &entry, state, choices, calls, limits)?;
+    let run = follow::<M>(alloc, &called, &entry, state, choices, calls, limits, seen)?;
     Ok(run)
 }
 
@@ -279,6 +306,67 @@ pub fn run_called<M: Machine>(
         turns: turns_within(k, limit),
         steps: limit,
     };
-    let run = run_ranked::<M>(alloc, frame, state, &start.choices, calls, limits)?;
-    Ok(run)
+    let found = run_ranked::<M>(
+        alloc,
+        frame,
+        state,
+        &start.choices,
+        calls,
+        limits,
+        &mut Observer::Nothing,
+    )?;
+    Ok(found.0)
+}
+
+/// The run of [`run_called`] with each of its steps: in the order of their numbers, with what each changes, where the run has no step whose block is not its own
+/// (`NoCall`, `NotGiven`). It takes memory for what the steps change besides, and time for that and for each step's registers.
+///
+/// # Errors
+///
+/// Want of memory.
+pub fn watch_called<M: Machine>(
+    alloc: Global,
+    frame: &RankedFrame<M>,
+    start: &Start,
+    calls: &[CallState],
+    k: Option<u64>,
+    limit: u64,
+) -> Result<Watched<CalledRun, M::State>, AllocError>
+    requires start { IsWritten M.form (is_known_at (frame_of_rank frame.now).program) (written_of start.now) }
+    requires blocks { All (λ c. IsWrittenCall (whole_in frame.now) M.form (written_call_of c)) calls.now }
+    requires calls { AllPairs (λ x y. x.step < y.step) calls.now }
+    requires some { 1 ≤ limit }
+    ensures cause { IfOk result (λ w. cause_of w.ending.ending ≡ cause_within (frame_of_rank frame.now) (reports.turns_within (limit - 1) k)
+        (start_called M.form frame.now (written_of start.now) (map written_call_of calls.now)) (map written_call_of calls.now) (limit - 1)) }
+    ensures found { IfOk result (λ w. IsFoundAs w.ending.ending (found (frame_of_rank frame.now) k
+        (start_called M.form frame.now (written_of start.now) (map written_call_of calls.now)) (limit - 1))) }
+    ensures called { IfOk result (λ w. cause_of w.ending.ending ≡ None → w.ending.called ≡ has_called (frame_of_rank frame.now)
+        (reports.turns_within (limit - 1) k) (start_called M.form frame.now (written_of start.now) (map written_call_of calls.now)) limit) }
+    ensures steps { IfOk result (λ w. cause_of w.ending.ending ≡ None → map seen_of w.steps.items ≡ seen_steps (frame_of_rank frame.now) M.form
+        (reports.turns_within (limit - 1) k) (start_called M.form frame.now (written_of start.now) (map written_call_of calls.now)) limit) }
+    ensures state { IfOk result (λ w. cause_of w.ending.ending ≡ None → IsLeftIn (frame_of_rank frame.now) (reports.turns_within (limit - 1) k)
+        (start_called M.form frame.now (written_of start.now) (map written_call_of calls.now)) w.ending.ending (M.State.view w.state)) }
+{
+    let state = called_state::<M>(alloc, frame, start)?;
+    let limits = Limits {
+        turns: turns_within(k, limit),
+        steps: limit,
+    };
+    let list = Vec::new(alloc);
+    let mut seen = Observer::Steps(list);
+    let found = run_ranked::<M>(
+        alloc,
+        frame,
+        state,
+        &start.choices,
+        calls,
+        limits,
+        &mut seen,
+    )?;
+    let steps = steps_of(alloc, seen);
+    Ok(Watched {
+        ending: found.0,
+        steps,
+        state: found.1,
+    })
 }

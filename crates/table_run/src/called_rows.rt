@@ -1,5 +1,5 @@
 //! The step of a row in a frame that steps over contracts.
-ghost use Rattle.std.specs.Prelude.{◌≡◌, ◌≤◌, ◌&&◌, List, true, IfOk, None, Option, Some, is_some, length, map, reverse, if◌then◌else◌};
+ghost use Rattle.std.specs.Prelude.{◌≡◌, ◌≤◌, ◌&&◌, List, true, IfOk, OnOk, None, Option, Some, is_some, length, map, reverse, if◌then◌else◌};
 ghost use Rattle.std.specs.Option.{option_map};
 ghost use Rattle.word_spec.specs.Memory as memory;
 ghost use Rattle.word_spec.specs.Memory.{Endian};
@@ -15,6 +15,7 @@ ghost use Rattle.notes_value.specs.FrameViews.{contract_of};
 ghost use Rattle.notes_value.specs.Reads.{IsReadableContract};
 ghost use Rattle.state_text.specs.Starts.{event_of};
 ghost use Rattle.program_value.specs.Programs.{program_of};
+ghost use Rattle.trace_spec.specs.Seen.{left_in};
 ghost use Rattle.table_run.specs.CalledFrames.{landed, IsCalled, IsLeft, IsOwnAt, IsRowEnd, IsRunnable, called_event_of, called_frame, frame_in, own_of};
 
 use crate::changes::{contract_at, has_changed};
@@ -40,7 +41,7 @@ struct Ahead {
 }
 
 /// The instruction at the address of a state, where it may be fetched.
-fn row_there<M: Machine>(p: &Program<M>, state: &M::State) -> Option<M::Insn>
+pub(crate) fn row_there<M: Machine>(p: &Program<M>, state: &M::State) -> Option<M::Insn>
     ensures { option_map M.Machine.row result
         ≡ row_at (program_of p.now) ((program_of p.now).word (M.State.view state.now)) (M.State.view state.now).pc }
 {
@@ -212,6 +213,7 @@ pub(crate) fn row_turn<M: Machine>(
     ensures called { IfOk result (λ end. IsCalled end → is_some (frames.contract_at (map contract_of frame.now.stepped.now)
         (M.State.view state.new).pc) ≡ true) }
     ensures deeper { IfOk result (λ end. IsCalled end → 1 ≤ length stack.new.items) }
+    ensures left { OnOk result (M.State.view state.new ≡ left_in (program_of frame.now.program) (M.State.view entry.now) (M.State.view state.old) choice) }
 {
     let ahead = look_ahead::<M>(frame, state);
     let depth = stack.len();

@@ -8,6 +8,7 @@ ghost use Rattle.notes_value.specs.FrameViews.{contract_of};
 ghost use Rattle.state_text.specs.Starts.{written_call_of};
 ghost use Rattle.program_value.specs.Programs.{program_of};
 ghost use Rattle.table_run.specs.CalledFrames.{IsAt, IsBlock, IsGift, IsOwnAt, IsRunnable, IsStanding, IsTurnEnd, frame_in, stand_after, turned, turned_wrong};
+ghost use Rattle.table_run.specs.Watching.{IsLeftBy};
 
 use crate::called_rows::row_turn;
 use crate::contract_steps::contract_turn;
@@ -49,6 +50,8 @@ pub(crate) fn turn<M: Machine>(
         IfOk result (λ end. IsTurnEnd end (program_of frame.now.program) (M.State.view state.new) (reverse stack.new.items) n
         (turned stand (frame_in frame.now) (M.State.view entry.now) c choice given)
         (turned_wrong stand (frame_in frame.now) (M.State.view entry.now) c (option_map (λ c. written_call_of c.now) block.entry) given n)) }
+    ensures left { IfOk result (λ end. IsLeftBy stand end (program_of frame.now.program) (M.State.view entry.now) (M.State.view state.old) choice
+        (M.State.view state.new)) }
     ensures stands { (c : Place) (given : Content) → IsAt (program_of frame.now.program) c (M.State.view state.old) (reverse stack.old.items) →
         IsGift (frame_in frame.now).stepped (option_map (λ c. written_call_of c.now) block.entry) given →
         IfOk result (λ end. IsStanding (stand_after end) (map contract_of frame.now.stepped.now) (M.State.view state.new) stack.new.items) }

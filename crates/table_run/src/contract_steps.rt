@@ -12,6 +12,7 @@ ghost use Rattle.program_value.specs.Programs.{program_of};
 ghost use Rattle.table_run.specs.FrameEnds.{HasKept};
 ghost use Rattle.table_run.specs.Spans.{bytes_of};
 ghost use Rattle.table_run.specs.CalledFrames.{IsBlock, IsContractEnd, IsGift, IsOwnAt, IsReturn, IsRunnable, frame_in, own_of};
+ghost use Rattle.table_run.specs.Watching.{IsBack, IsStill};
 ghost use Rattle.notes_value.specs.Reads.{IsReadableContract};
 ghost use Rattle.word_spec.specs.Memory.{Endian};
 
@@ -53,7 +54,8 @@ fn come_back<M: Machine>(
     requires block { IsBlock M.form (written_call_of call.now) }
     requires returns { 1 ≤ length stack.old.items }
     requires spans { bytes_of spans.now ≡ written M.machine.endian (contract_of contract.now).writes (M.State.view state.old) }
-    ensures { IfOk result (λ end. IsReturn frame.now (contract_of contract.now) (written_call_of call.now) end
+    ensures back { IfOk result IsBack }
+    ensures end { IfOk result (λ end. IsReturn frame.now (contract_of contract.now) (written_call_of call.now) end
         (M.State.view state.old) (reverse stack.old.items) (M.State.view state.new) (reverse stack.new.items)) }
 {
     let count = stack.len();
@@ -80,7 +82,8 @@ pub(crate) fn contract_turn<M: Machine>(
     requires block { IfSome block (λ c. IsBlock M.form (written_call_of c.now)) }
     requires called { is_some (frames.contract_at (map contract_of frame.now.stepped.now) (M.State.view state.old).pc) ≡ true }
     requires returns { 1 ≤ length stack.old.items }
-    ensures { (entry : State) (given : Content) → IsOwnAt M.machine.endian frame.now.own entry →
+    ensures still { IfOk result (λ end. IsStill end (M.State.view state.old) (M.State.view state.new)) }
+    ensures end { (entry : State) (given : Content) → IsOwnAt M.machine.endian frame.now.own entry →
         IsGift (frame_in frame.now).stepped (option_map (λ c. written_call_of c.now) block.entry) given →
         HasKept (program_of frame.now.program) (M.State.view state.old) →
         IfOk result (λ end. IsContractEnd end (program_of frame.now.program) (M.State.view state.new) (reverse stack.new.items)

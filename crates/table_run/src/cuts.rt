@@ -1,5 +1,5 @@
 //! Heads, and one step of a run that is cut there.
-ghost use Rattle.std.specs.Prelude.{◌≡◌, ◌==◌, IfOk, map, nat_eq, reverse};
+ghost use Rattle.std.specs.Prelude.{◌≡◌, ◌==◌, IfOk, OnOk, map, nat_eq, reverse};
 ghost use Rattle.std.specs.List.{list_any};
 ghost use Rattle.std.specs.List.Sorted.{IsStrictlyIncreasing};
 ghost use Rattle.word_spec.specs.Memory as memory;
@@ -12,6 +12,8 @@ ghost use Rattle.notes_index.specs.Indexed.{AreIndexed, IsIndex, assert_places};
 ghost use Rattle.state_text.specs.Starts.{event_of};
 ghost use Rattle.program_value.specs.Programs.{program_of};
 ghost use Rattle.state_text.specs.Starts.{frame_event_of};
+ghost use Rattle.table_run.specs.WatchedRuns.{frame_step_in};
+ghost use Rattle.trace_spec.specs.Seen.{left_in};
 ghost use Rattle.table_run.specs.FrameEnds.{frame_of, frame_found_of, IsFrameStepEnd};
 
 use crate::ending::{FrameEnding, FrameStepEnd, StepEnd};
@@ -101,6 +103,7 @@ pub(crate) fn frame_step<M: Machine>(
     ensures end { IfOk result (λ end. IsFrameStepEnd end (M.State.view state.new) (reverse stack.new.items)
         (runs.frame_step (frame_of (program_of p.now) invariants.now) (M.State.view entry.now)
         (record { state = M.State.view state.old; stack = reverse stack.old.items }) choice)) }
+    ensures left { OnOk result (M.State.view state.new ≡ left_in (program_of p.now) (M.State.view entry.now) (M.State.view state.old) choice) }
 {
     match step::<M>(p, index, entry, state, stack, choice)? {
         StepEnd::Stops(event) => Ok(FrameStepEnd::Halts(frame_event(event, invariants))),
@@ -125,7 +128,8 @@ pub(crate) fn arrival<M: Machine>(
 ) -> FrameEnding
     requires index { AreIndexed p.now.notes.now index.now }
     requires rising { IsStrictlyIncreasing invariants.now }
-    ensures { (before : runs.Run) → frame_found_of result ≡ found_by before (runs.arrival (frame_of (program_of p.now) invariants.now)
+    ensures number { frame_step_in result ≡ step }
+    ensures found { (before : runs.Run) → frame_found_of result ≡ found_by before (runs.arrival (frame_of (program_of p.now) invariants.now)
         (first_false M.machine.endian (notes_of p.now.notes.now).asserts (M.State.view state.now) (M.State.view entry.now)) step (M.State.view state.now).pc) }
 {
     let at = state.pc();

@@ -1,5 +1,5 @@
 //! A run from a start.
-ghost use Rattle.std.specs.Prelude.{◌≡◌, ℕ, ◌≤◌, ◌<◌, ◌+◌, ◌-◌, ◌^◌, IfOk, IfSome, MatchOption, None, Option, Some, nat_le, option_map, reverse};
+ghost use Rattle.std.specs.Prelude.{◌≡◌, ℕ, ◌≤◌, ◌<◌, ◌+◌, ◌-◌, ◌^◌, List, [], IfOk, IfSome, MatchOption, None, Option, Some, map, nat_le, option_map, reverse};
 ghost use Rattle.std.specs.List.Sorted.{IsStrictlyIncreasing};
 ghost use Rattle.bilv_spec.specs.Elf.{loaded, is_kept};
 ghost use Rattle.bilv_spec.specs.Run as meaning;
@@ -16,6 +16,10 @@ ghost use Rattle.table_run.specs.Endings.{found_of};
 ghost use Rattle.state_text.specs.Starts.{written_head_of};
 ghost use Rattle.table_run.specs.FrameEnds as ends;
 ghost use Rattle.table_run.specs.FrameEnds.{Begins, IsOfTables, frame_found_of, frame_of, start_by, start_shown};
+ghost use Rattle.trace_spec.specs.Seen.{seen_steps};
+ghost use Rattle.seen_step.specs.Views.{seen_of};
+ghost use Rattle.table_run.specs.Watching.{HasSeen};
+ghost use Rattle.table_run.specs.WatchedRuns.{IsFrameWatched, IsLeftAt};
 ghost use Rattle.notes_index.specs.Indexed.{AreIndexed};
 
 use crate::choices::choice_at;
@@ -23,6 +27,9 @@ use crate::cuts::{arrival, frame_step, is_head};
 use crate::ending::{Ending, FrameEnding, FrameStepEnd};
 use crate::heads::head_state;
 use crate::memory::memory_at;
+use crate::observers::{
+    Observer, Watched, frame_later, look_for_row, note, note_arrival, steps_of,
+};
 use byte_mem::View;
 use machine_law::Machine;
 use notes_index::{Index, index_of};
@@ -54,8 +61,10 @@ pub(crate) fn next_turns(from: u32, to: u32, turns: u64, bound: u64) -> Option<u
     Some(turns + 1)
 }
 
-/// What the run of a frame from a state comes to within its limits; the last address of the stack is the top. The error is want of memory.
+/// What the run of a frame from a state comes to within its limits; the last address of the stack is the top. Also the state that
+/// its last step leaves; an observer sees the steps. The error is want of memory.
 fn follow<M: Machine>(
+    alloc: Global,
     p: &Program<M>,
     index: &Index,
     invariants: &[u32],
@@ -64,39 +73,54 @@ fn follow<M: Machine>(
     mut stack: Vec<u32>,
     choices: &[(u64, u8)],
     limits: Limits,
-) -> Result<FrameEnding, AllocError>
+    seen: &mut Observer,
+) -> Result<(FrameEnding, M::State), AllocError>
     requires index { AreIndexed p.now.notes.now index.now }
     requires lines { IsStrictlyIncreasing invariants.now }
     requires rising { AreRising choices.now }
     requires some { 1 ≤ limits.steps }
-    ensures { (head : Option meaning.Place) (given : ℕ → Content) → IfOk result (λ e.
+    ensures found { (head : Option meaning.Place) (given : ℕ → Content) → IfOk result (λ r.
         Begins (frame_of (program_of p.now) invariants.now) (M.State.view entry.now) head
         (record { state = M.State.view state; stack = reverse stack.items }) →
-        frame_found_of e ≡ found_within (frame_of (program_of p.now) invariants.now) limits.turns
+        frame_found_of r.0 ≡ found_within (frame_of (program_of p.now) invariants.now) limits.turns
         (start_by (M.State.view entry.now) choices.now head given) (limits.steps - 1)) }
+    ensures seen { (head : Option meaning.Place) (given : ℕ → Content) → HasSeen seen.old [] → IfOk result (λ r.
+        Begins (frame_of (program_of p.now) invariants.now) (M.State.view entry.now) head
+        (record { state = M.State.view state; stack = reverse stack.items }) →
+        IsFrameWatched (frame_of (program_of p.now) invariants.now) M.form limits.turns
+        (start_by (M.State.view entry.now) choices.now head given) limits.steps r.0 seen.new (M.State.view r.1)) }
 {
     let mut turns = 0u64;
     let mut n = 0u64;
     loop {
         let at = state.pc();
         let choice = choice_at(choices, n);
-        match frame_step::<M>(p, index, invariants, entry, &mut state, &mut stack, choice)? {
-            FrameStepEnd::Halts(event) => return Ok(FrameEnding::Failed { event, at, step: n }),
-            FrameStepEnd::Leaves => return Ok(FrameEnding::Exit { at, step: n }),
+        let depth = stack.len();
+        let look = look_for_row::<M>(alloc, seen, p, &state, depth, n)?;
+        let end = frame_step::<M>(p, index, invariants, entry, &mut state, &mut stack, choice)?;
+        let later = frame_later(end, depth, stack.len());
+        note::<M>(alloc, seen, &look, &state, later)?;
+        match end {
+            FrameStepEnd::Halts(event) => {
+                return Ok((FrameEnding::Failed { event, at, step: n }, state));
+            }
+            FrameStepEnd::Leaves => return Ok((FrameEnding::Exit { at, step: n }, state)),
             FrameStepEnd::Reaches => {
                 if n + 1 == limits.steps {
-                    return Ok(FrameEnding::Left { at, step: n });
+                    return Ok((FrameEnding::Left { at, step: n }, state));
                 }
-                return Ok(arrival::<M>(p, index, invariants, entry, &state, n + 1));
+                note_arrival::<M>(alloc, seen, &state, later, n + 1)?;
+                let ending = arrival::<M>(p, index, invariants, entry, &state, n + 1);
+                return Ok((ending, state));
             }
             FrameStepEnd::GoesTo => {}
         }
         turns = match next_turns(at, state.pc(), turns, limits.turns) {
-            None => return Ok(FrameEnding::Turned { at, step: n }),
+            None => return Ok((FrameEnding::Turned { at, step: n }, state)),
             Some(more) => more,
         };
         if n + 1 == limits.steps {
-            return Ok(FrameEnding::Left { at, step: n });
+            return Ok((FrameEnding::Left { at, step: n }, state));
         }
         n += 1;
     }
@@ -111,19 +135,25 @@ fn follow_entry<M: Machine>(
     state: M::State,
     choices: &[(u64, u8)],
     limits: Limits,
-) -> Result<FrameEnding, AllocError>
+    seen: &mut Observer,
+) -> Result<(FrameEnding, M::State), AllocError>
     requires index { AreIndexed p.now.notes.now index.now }
     requires lines { IsStrictlyIncreasing invariants.now }
     requires rising { AreRising choices.now }
     requires some { 1 ≤ limits.steps }
-    ensures { (given : ℕ → Content) → IfOk result (λ e. frame_found_of e ≡ found_within (frame_of (program_of p.now) invariants.now)
+    ensures found { (given : ℕ → Content) → IfOk result (λ r. frame_found_of r.0 ≡ found_within (frame_of (program_of p.now) invariants.now)
         limits.turns (start_by (M.State.view state) choices.now None given) (limits.steps - 1)) }
+    ensures seen { (given : ℕ → Content) → HasSeen seen.old [] → IfOk result (λ r. IsFrameWatched (frame_of (program_of p.now) invariants.now) M.form
+        limits.turns (start_by (M.State.view state) choices.now None given) limits.steps r.0 seen.new (M.State.view r.1)) }
 {
     if is_head(p, index, invariants, state.pc()) {
-        return Ok(arrival::<M>(p, index, invariants, &state, &state, 0));
+        note_arrival::<M>(alloc, seen, &state, 0, 0)?;
+        let ending = arrival::<M>(p, index, invariants, &state, &state, 0);
+        return Ok((ending, state));
     }
     let first = M::copy(alloc, &state)?;
-    let ending = follow::<M>(
+    let found = follow::<M>(
+        alloc,
         p,
         index,
         invariants,
@@ -132,8 +162,9 @@ fn follow_entry<M: Machine>(
         Vec::new(alloc),
         choices,
         limits,
+        seen,
     )?;
-    Ok(ending)
+    Ok(found)
 }
 
 /// The state of a start at a program's function: its registers and flags, and in memory the file's byte where it is kept or fixed, else the start's, else 0. The start is
@@ -175,19 +206,24 @@ fn follow_head<M: Machine>(
     entry: &M::State,
     head: &HeadStart,
     limits: Limits,
-) -> Result<FrameEnding, AllocError>
+    seen: &mut Observer,
+) -> Result<(FrameEnding, M::State), AllocError>
     requires index { AreIndexed p.now.notes.now index.now }
     requires lines { IsStrictlyIncreasing invariants.now }
     requires head { IsWritten M.form (λ a. is_kept (loaded p.now.image.now a)) (written_of head.now.start) }
     requires some { 1 ≤ limits.steps }
-    ensures { (given : ℕ → Content) → IfOk result (λ e. frame_found_of e ≡ found_within (frame_of (program_of p.now) invariants.now)
+    ensures found { (given : ℕ → Content) → IfOk result (λ r. frame_found_of r.0 ≡ found_within (frame_of (program_of p.now) invariants.now)
         limits.turns (start_by (M.State.view entry.now) (written_of head.now.start).choices
         (Some (head_place (program_of p.now) M.form (written_head_of head.now))) given) (limits.steps - 1)) }
+    ensures seen { (given : ℕ → Content) → HasSeen seen.old [] → IfOk result (λ r. IsFrameWatched (frame_of (program_of p.now) invariants.now) M.form
+        limits.turns (start_by (M.State.view entry.now) (written_of head.now.start).choices
+        (Some (head_place (program_of p.now) M.form (written_head_of head.now))) given) limits.steps r.0 seen.new (M.State.view r.1)) }
 {
     let state = head_state::<M>(alloc, p.image, head)?;
     let mut stack = Vec::new(alloc);
     stack.extend_from_slice(&head.stack)?;
-    let ending = follow::<M>(
+    let found = follow::<M>(
+        alloc,
         p,
         index,
         invariants,
@@ -196,8 +232,61 @@ fn follow_head<M: Machine>(
         stack,
         &head.start.choices,
         limits,
+        seen,
     )?;
-    Ok(ending)
+    Ok(found)
+}
+
+/// The run of a frame from a start at an address or, where a head state is given, from that, within its limits, and the state that its last step leaves; an observer
+/// sees the steps. The error is want of memory.
+fn run_seen<M: Machine>(
+    alloc: Global,
+    program: &Program<M>,
+    invariants: &[u32],
+    start: &Start,
+    head: Option<&HeadStart>,
+    k: Option<u64>,
+    limit: u64,
+    seen: &mut Observer,
+) -> Result<(FrameEnding, M::State), AllocError>
+    requires lines { IsStrictlyIncreasing invariants.now }
+    requires some { 1 ≤ limit }
+    requires start { IsWritten M.form (is_known_at (program_of program.now)) (written_of start.now) }
+    requires head { IfSome head (λ h. IsWritten M.form (λ a. is_kept (loaded program.now.image.now a)) (written_of h.now.start)) }
+    ensures found { IfOk result (λ r. frame_found_of r.0 ≡ found (frame_of (program_of program.now) invariants.now) k
+        (start_shown (program_of program.now) invariants.now M.form (written_of start.now)
+        (option_map (λ h. written_head_of h.now) head.entry)) (limit - 1)) }
+    ensures seen { HasSeen seen.old [] → IfOk result (λ r. IsFrameWatched (frame_of (program_of program.now) invariants.now) M.form
+        (reports.turns_within (limit - 1) k) (start_shown (program_of program.now) invariants.now M.form (written_of start.now)
+        (option_map (λ h. written_head_of h.now) head.entry)) limit r.0 seen.new (M.State.view r.1)) }
+{
+    let index = index_of(alloc, program.notes)?;
+    let state = start_state::<M>(alloc, program, start)?;
+    let limits = Limits {
+        turns: turns_within(k, limit),
+        steps: limit,
+    };
+    match head {
+        None => {
+            let found = follow_entry::<M>(
+                alloc,
+                program,
+                &index,
+                invariants,
+                state,
+                &start.choices,
+                limits,
+                seen,
+            )?;
+            Ok(found)
+        }
+        Some(head) => {
+            let found = follow_head::<M>(
+                alloc, program, &index, invariants, &state, head, limits, seen,
+            )?;
+            Ok(found)
+        }
+    }
 }
 
 /// What the run of a frame comes to: from a start at an address or, where a head state is given, from that, within `limit` steps, and within `k` backward
@@ -227,32 +316,49 @@ pub fn run_frame<M: Machine>(
         (start_shown (program_of program.now) invariants.now M.form (written_of start.now)
         (option_map (λ h. written_head_of h.now) head.entry)) (limit - 1)) }
 {
-    let index = index_of(alloc, program.notes)?;
-    let state = start_state::<M>(alloc, program, start)?;
-    let limits = Limits {
-        turns: turns_within(k, limit),
-        steps: limit,
-    };
-    match head {
-        None => {
-            let ending = follow_entry::<M>(
-                alloc,
-                program,
-                &index,
-                invariants,
-                state,
-                &start.choices,
-                limits,
-            )?;
-            Ok(ending)
-        }
-        Some(head) => {
-            let ending = follow_head::<M>(
-                alloc, program, &index, invariants, &state, head, limits,
-            )?;
-            Ok(ending)
-        }
-    }
+    let mut seen = Observer::Nothing;
+    let found = run_seen::<M>(alloc, program, invariants, start, head, k, limit, &mut seen)?;
+    Ok(found.0)
+}
+
+/// The run of [`run_frame`] with each of its steps, in the order of their numbers, with what each changes. It takes memory for that besides, and time for it and
+/// for each step's registers.
+///
+/// # Errors
+///
+/// Want of memory.
+pub fn watch_frame<M: Machine>(
+    alloc: Global,
+    program: &Program<M>,
+    invariants: &[u32],
+    start: &Start,
+    head: Option<&HeadStart>,
+    k: Option<u64>,
+    limit: u64,
+) -> Result<Watched<FrameEnding, M::State>, AllocError>
+    requires lines { IsStrictlyIncreasing invariants.now }
+    requires some { 1 ≤ limit }
+    requires start { IsWritten M.form (is_known_at (program_of program.now)) (written_of start.now) }
+    requires head { IfSome head (λ h. IsWritten M.form (λ a. is_kept (loaded program.now.image.now a)) (written_of h.now.start)) }
+    ensures found { IfOk result (λ w. frame_found_of w.ending ≡ found (frame_of (program_of program.now) invariants.now) k
+        (start_shown (program_of program.now) invariants.now M.form (written_of start.now)
+        (option_map (λ h. written_head_of h.now) head.entry)) (limit - 1)) }
+    ensures steps { IfOk result (λ w. map seen_of w.steps.items ≡ seen_steps (frame_of (program_of program.now) invariants.now) M.form
+        (reports.turns_within (limit - 1) k) (start_shown (program_of program.now) invariants.now M.form (written_of start.now)
+        (option_map (λ h. written_head_of h.now) head.entry)) limit) }
+    ensures state { IfOk result (λ w. IsLeftAt (frame_of (program_of program.now) invariants.now) (reports.turns_within (limit - 1) k)
+        (start_shown (program_of program.now) invariants.now M.form (written_of start.now)
+        (option_map (λ h. written_head_of h.now) head.entry)) w.ending (M.State.view w.state)) }
+{
+    let list = Vec::new(alloc);
+    let mut seen = Observer::Steps(list);
+    let found = run_seen::<M>(alloc, program, invariants, start, head, k, limit, &mut seen)?;
+    let steps = steps_of(alloc, seen);
+    Ok(Watched {
+        ending: found.0,
+        steps,
+        state: found.1,
+    })
 }
 
 /// What a run of a frame without invariants comes to, as one of the tables.

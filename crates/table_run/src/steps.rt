@@ -1,5 +1,5 @@
 //! One step of a run.
-ghost use Rattle.std.specs.Prelude.{◌≡◌, false, List, true, IfOk, reverse, ℕ, if◌then◌else◌};
+ghost use Rattle.std.specs.Prelude.{◌≡◌, false, List, true, IfOk, OnOk, reverse, ℕ, if◌then◌else◌};
 ghost use Rattle.word_spec.specs.Memory as memory;
 ghost use Rattle.word_spec.specs.State.{State};
 ghost use Rattle.machine_spec.specs.Machine.{Row};
@@ -8,6 +8,7 @@ ghost use Rattle.bilv_spec.specs.Run as meaning;
 ghost use Rattle.byte_mem.specs.Views.{IsStep};
 ghost use Rattle.program_value.specs.Programs.{program_of};
 ghost use Rattle.notes_index.specs.Indexed.{AreIndexed};
+ghost use Rattle.trace_spec.specs.Seen.{left_by_outcome, left_in};
 ghost use Rattle.table_run.specs.Steps.{IsStepEnd, IsBefore, way_of};
 ghost use Rattle.table_run.specs.Traces.{unjudged};
 
@@ -129,6 +130,7 @@ fn raised(writes_kept: bool, event: Event) -> StepEnd
 }
 
 /// The step of an instruction, of so many bytes, under a choice; an exit is not judged. The error is want of memory.
+#[tactic(auto, using(crate::proofs::Left::left_is))]
 fn row_step<M: Machine>(
     p: &Program<M>,
     index: &Index,
@@ -142,10 +144,12 @@ fn row_step<M: Machine>(
     requires index { AreIndexed p.now.notes.now index.now }
     requires lawful { IsLawful (M.Machine.row insn.now) }
     requires length { length ≡ (M.Machine.row insn.now).length }
-    ensures { IfOk result (λ end. IsStepEnd end (M.State.view state.new) (reverse stack.new.items)
+    ensures end { IfOk result (λ end. IsStepEnd end (M.State.view state.new) (reverse stack.new.items)
         (meaning.after_row (unjudged (program_of p.now)) (M.State.view entry.now) (M.Machine.row insn.now) (M.State.view state.old)
         (reverse stack.old.items) (meaning.writes_kept (program_of p.now) (M.Machine.row insn.now) (M.State.view state.old))
         ((M.Machine.row insn.now).effect (M.State.view state.old) choice))) }
+    ensures left { OnOk result (M.State.view state.new
+        ≡ left_by_outcome (M.State.view state.old) ((M.Machine.row insn.now).effect (M.State.view state.old) choice)) }
 {
     let before = look::<M>(p, insn, length, state);
     let writes = writes_kept(p.image, M::stored(insn, state));
@@ -166,6 +170,7 @@ fn row_step<M: Machine>(
 
 /// One step under a choice, for a run that began in the state at entry; an exit is not judged. The state and the stack, whose last address is the top, are
 /// those that the step leaves. The error is want of memory.
+#[tactic(auto, using(crate::proofs::Left::left_false, crate::proofs::Left::left_unfetched, crate::proofs::Left::left_undecoded, crate::proofs::Left::left_row))]
 pub(crate) fn walk<M: Machine>(
     p: &Program<M>,
     index: &Index,
@@ -178,6 +183,7 @@ pub(crate) fn walk<M: Machine>(
     ensures end { IfOk result (λ end. IsStepEnd end (M.State.view state.new) (reverse stack.new.items)
         (meaning.step (unjudged (program_of p.now)) (M.State.view entry.now)
         (record { state = M.State.view state.old; stack = reverse stack.old.items }) choice)) }
+    ensures left { OnOk result (M.State.view state.new ≡ left_in (program_of p.now) (M.State.view entry.now) (M.State.view state.old) choice) }
 {
     if let Some(line) = false_assert(&p.notes.asserts, &index.asserts, state, entry, p.big) {
         return Ok(StepEnd::Stops(Event::AssertFails { line: line as u64 }));
@@ -211,6 +217,7 @@ pub(crate) fn step<M: Machine>(
     ensures end { IfOk result (λ end. IsStepEnd end (M.State.view state.new) (reverse stack.new.items)
         (meaning.step (program_of p.now) (M.State.view entry.now)
         (record { state = M.State.view state.old; stack = reverse stack.old.items }) choice)) }
+    ensures left { OnOk result (M.State.view state.new ≡ left_in (program_of p.now) (M.State.view entry.now) (M.State.view state.old) choice) }
 {
     match walk::<M>(p, index, entry, state, stack, choice)? {
         StepEnd::Stops(event) => Ok(StepEnd::Stops(event)),

@@ -57,7 +57,7 @@ returns-in_ok-end-in-Contract-clause-end g c there given n at gift =
     subst (λ (s : Stand). IsTurnEnd e p after stack n (turned s f entry there c.args.choice given) (turned_wrong s f entry there o given n))
     (sym c.in-Contract.is)
     (contract_turned p stepped own entry there now (reverse c.args.stack.now.items) at given e after stack n o
-    (λ kept. c.in_ok-end-in-Contract.ensures entry given c.requires.own gift kept))
+    (λ kept. c.in_ok-end-in-Contract.ensures.end entry given c.requires.own gift kept))
 
 pub returns-in_ok-end-in-Contract-clause-stands : goal.returns-in_ok-end-in-Contract-clause-stands
 returns-in_ok-end-in-Contract-clause-stands g c there given at gift =
@@ -70,4 +70,4 @@ returns-in_ok-end-in-Contract-clause-stands g c there given at gift =
     subst (λ (s : Stand). IsStanding s stepped (g.M.State.View.view c.contract_turn.new.state) c.contract_turn.new.stack.items)
     (sym (contract_stands p stepped own entry there now (reverse c.args.stack.now.items) at given c.in_ok-end-in-Contract.end
     (g.M.State.View.view c.contract_turn.new.state) (reverse c.contract_turn.new.stack.items) _ _
-    (c.in_ok-end-in-Contract.ensures entry given c.requires.own gift kept))) tt
+    (c.in_ok-end-in-Contract.ensures.end entry given c.requires.own gift kept))) tt

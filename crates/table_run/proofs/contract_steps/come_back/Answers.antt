@@ -18,8 +18,8 @@ false_line-requires g c =
     unmapped (λ l. IsReadable g.M.State.View.has_register l.says) note_line_of c.args.contract.now.gives.items c.deref.result.now c.deref.ensures.value
     c.requires.contract.gives
 
-pub returns-in-None : goal.returns-in-None
-returns-in-None g c to below stacked kept clean =
+pub returns-in-None-clause-end : goal.returns-in-None-clause-end
+returns-in-None-clause-end g c to below stacked kept clean =
     let p : Program = program_of c.args.frame.now.program in
     let x = contract_of c.args.contract.now in
     let w = written_call_of c.args.call.now in
@@ -38,8 +38,8 @@ returns-in-None g c to below stacked kept clean =
     ((λ a cell low e k q. kept a cell low e k), g.met.M.Machine.states c.args.state.now) (given_is g.M.Machine.form (changed_by x) w c.requires.block)
     (g.met.M.Machine.states c.give.new.state) clean (sym c.in-None.is ∙ c.false_line.ensures)
 
-pub returns : goal.returns
-returns g c to below stacked kept clean =
+pub returns-clause-end : goal.returns-clause-end
+returns-clause-end g c to below stacked kept clean =
     let p : Program = program_of c.args.frame.now.program in
     let x = contract_of c.args.contract.now in
     let w = written_call_of c.args.call.now in

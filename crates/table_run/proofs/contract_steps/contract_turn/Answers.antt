@@ -39,8 +39,8 @@ pub come_back-requires-clause-contract : goal.come_back-requires-clause-contract
 come_back-requires-clause-contract g c =
     readable_at g.M.State.View.has_register c.args.frame.now.stepped.now c.in-Some.contract.now c.requires.frame.stepped c.in-Some.ensures.listed
 
-pub returns-in-Some-false_line : goal.returns-in-Some-false_line
-returns-in-Some-false_line g c entry given at gift has =
+pub returns-in-Some-false_line-clause-end : goal.returns-in-Some-false_line-clause-end
+returns-in-Some-false_line-clause-end g c entry given at gift has =
     let m = g.M.Machine.machine in
     let p : Program = program_of c.args.frame.now.program in
     let stepped : List frames.Contract = map contract_of c.args.frame.now.stepped.now in
@@ -56,8 +56,8 @@ returns-in-Some-false_line g c entry given at gift has =
     ∙ line_meant (endian c.args.frame.now.program.big) m.endian c.deref.result.now c.in-Some.contract.now.needs.items s s c.false_line.result
     c.args.frame.now.program.big_is c.deref.ensures.value c.false_line.ensures)
 
-pub returns-then-any_kept_of : goal.returns-then-any_kept_of
-returns-then-any_kept_of g c entry given at gift has =
+pub returns-then-any_kept_of-clause-end : goal.returns-then-any_kept_of-clause-end
+returns-then-any_kept_of-clause-end g c entry given at gift has =
     let m = g.M.Machine.machine in
     let p : Program = program_of c.args.frame.now.program in
     let stepped : List frames.Contract = map contract_of c.args.frame.now.stepped.now in
@@ -78,8 +78,8 @@ returns-then-any_kept_of g c entry given at gift has =
     turn_kept p stepped own s entry items len x given found bytes is_bytes needs
     (c.if-any_kept_of.ensures ∙ ap (λ l. list_any (λ a. is_kept (p.loaded a)) (bytes_of l)) c.deref-3.ensures.value)
 
-pub returns-then-leaves_own : goal.returns-then-leaves_own
-returns-then-leaves_own g c entry given at gift has =
+pub returns-then-leaves_own-clause-end : goal.returns-then-leaves_own-clause-end
+returns-then-leaves_own-clause-end g c entry given at gift has =
     let m = g.M.Machine.machine in
     let p : Program = program_of c.args.frame.now.program in
     let stepped : List frames.Contract = map contract_of c.args.frame.now.stepped.now in
@@ -101,8 +101,8 @@ returns-then-leaves_own g c entry given at gift has =
     turn_outside p stepped own s entry items len x given found bytes is_bytes needs kept
     (c.if-leaves_own.ensures m.endian entry at ∙ ap (λ l. is_outside own m.endian entry (bytes_of l)) c.deref-4.ensures.value)
 
-pub returns-in-None-block : goal.returns-in-None-block
-returns-in-None-block g c entry given at gift has =
+pub returns-in-None-block-clause-end : goal.returns-in-None-block-clause-end
+returns-in-None-block-clause-end g c entry given at gift has =
     let m = g.M.Machine.machine in
     let p : Program = program_of c.args.frame.now.program in
     let stepped : List frames.Contract = map contract_of c.args.frame.now.stepped.now in
@@ -125,8 +125,8 @@ returns-in-None-block g c entry given at gift has =
     turn_not_given p stepped own s entry items len x given found bytes is_bytes needs kept within
     (option_map (λ c. written_call_of c.now) c.args.block) (ap (option_map (λ c. written_call_of c.now)) c.in-None-block.is)
 
-pub returns-then-not-is_of : goal.returns-then-not-is_of
-returns-then-not-is_of g c entry given at gift has =
+pub returns-then-not-is_of-clause-end : goal.returns-then-not-is_of-clause-end
+returns-then-not-is_of-clause-end g c entry given at gift has =
     let m = g.M.Machine.machine in
     let p : Program = program_of c.args.frame.now.program in
     let stepped : List frames.Contract = map contract_of c.args.frame.now.stepped.now in
@@ -154,8 +154,8 @@ returns-then-not-is_of g c entry given at gift has =
     ∙ ap (λ l. (w.at == s.pc) && list_all (λ (b : ℕ × ℕ). list_any (nat_eq b.0) (bytes_of l)) w.bytes) c.deref-5.ensures.value in
     turn_other p stepped own s entry items len x given found bytes is_bytes needs kept within o w here test
 
-pub returns : goal.returns
-returns g c entry given at gift has =
+pub returns-clause-end : goal.returns-clause-end
+returns-clause-end g c entry given at gift has =
     let m = g.M.Machine.machine in
     let p : Program = program_of c.args.frame.now.program in
     let stepped : List frames.Contract = map contract_of c.args.frame.now.stepped.now in
@@ -183,4 +183,4 @@ returns g c entry given at gift has =
     ∙ ap (λ l. (w.at == s.pc) && list_all (λ (b : ℕ × ℕ). list_any (nat_eq b.0) (bytes_of l)) w.bytes) c.deref-5.ensures.value in
     turn_returns p stepped own s entry items len x given found bytes is_bytes needs kept within o w here test gift c.in_ok-end.end
     (g.M.State.View.view c.come_back.new.state) (reverse c.come_back.new.stack.items)
-    (λ to below stacked. c.in_ok-end.ensures to below stacked has (sym (kept ∙ ap (list_any (λ a. is_kept (p.loaded a))) is_bytes)))
+    (λ to below stacked. c.in_ok-end.ensures.end to below stacked has (sym (kept ∙ ap (list_any (λ a. is_kept (p.loaded a))) is_bytes)))

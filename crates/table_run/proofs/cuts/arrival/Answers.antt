@@ -17,8 +17,8 @@ false_assert-requires-clause-readable g c =
     unmapped (λ l. IsReadable g.M.State.View.has_register l.says) assert_of c.args.p.now.notes.now.asserts.items c.deref.result.now c.deref.ensures.value
     c.args.p.now.readable.asserts
 
-pub returns-in-Some : goal.returns-in-Some
-returns-in-Some g c before =
+pub returns-in-Some-clause-found : goal.returns-in-Some-clause-found
+returns-in-Some-clause-found g c before =
     let p : Program = program_of c.args.p.now in
     let now : State = g.M.State.View.view c.args.state.now in
     let entry : State = g.M.State.View.view c.args.entry.now in

@@ -15,6 +15,7 @@ returns-in-Stops g c =
     let p = program_of c.args.p.now in
     let here : Place = record { state = g.M.State.View.view c.args.state.now; stack = reverse c.args.stack.now.items } in
     record {
+      left = c.in_ok-event.ensures.left;
       end =
           halts p c.args.invariants.now (g.M.State.View.view c.args.entry.now) here c.args.choice (event_of c.in-Stops.event)
           (end_is c.in_ok-event.field-0 _ (g.M.State.View.view c.step.new.state) (reverse c.step.new.stack.items) _ c.in-Stops.is c.in_ok-event.ensures.end)
@@ -26,6 +27,7 @@ returns-in-Exits g c =
     let p = program_of c.args.p.now in
     let here : Place = record { state = g.M.State.View.view c.args.state.now; stack = reverse c.args.stack.now.items } in
     record {
+      left = c.in_ok-event.ensures.left;
       end =
           leaves p c.args.invariants.now (g.M.State.View.view c.args.entry.now) here c.args.choice (g.M.State.View.view c.step.new.state)
           (end_is c.in_ok-event.field-0 _ (g.M.State.View.view c.step.new.state) (reverse c.step.new.stack.items) _ c.in-Exits.is c.in_ok-event.ensures.end);
@@ -37,6 +39,7 @@ returns-then-is_head g c =
     let here : Place = record { state = g.M.State.View.view c.args.state.now; stack = reverse c.args.stack.now.items } in
     let there : Place = record { state = g.M.State.View.view c.step.new.state; stack = reverse c.step.new.stack.items } in
     record {
+      left = c.in_ok-event.ensures.left;
       end =
           lands p c.args.invariants.now (g.M.State.View.view c.args.entry.now) here c.args.choice there true
           (end_is c.in_ok-event.field-0 _ (g.M.State.View.view c.step.new.state) (reverse c.step.new.stack.items) _ c.in-Arrives.is c.in_ok-event.ensures.end)
@@ -49,6 +52,7 @@ returns-else-is_head g c =
     let here : Place = record { state = g.M.State.View.view c.args.state.now; stack = reverse c.args.stack.now.items } in
     let there : Place = record { state = g.M.State.View.view c.step.new.state; stack = reverse c.step.new.stack.items } in
     record {
+      left = c.in_ok-event.ensures.left;
       end =
           lands p c.args.invariants.now (g.M.State.View.view c.args.entry.now) here c.args.choice there false
           (end_is c.in_ok-event.field-0 _ (g.M.State.View.view c.step.new.state) (reverse c.step.new.stack.items) _ c.in-Arrives.is c.in_ok-event.ensures.end)

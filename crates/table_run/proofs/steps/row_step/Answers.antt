@@ -10,8 +10,8 @@ use Rattle.table_run.proofs.Stepped.{Ways, row_goes}
 use Rattle.table_run.proofs.steps.row_step.Goals as goal
 use Rattle.table_run.proofs.steps.row_step.Goals.{in-Next, in-Jump}
 
-pub returns : goal.returns
-returns g c =
+pub returns-clause-end : goal.returns-clause-end
+returns-clause-end g c =
     let free = sym (ap (λ (s : Option (ℕ × ℕ)). list_any (λ x. is_kept (loaded c.args.p.now.image.now x))
     (addresses s)) c.stored.ensures) ∙ sym c.writes_kept-writes.ensures ∙ c.if-writes.false in
     let ways : Ways c.in_ok-out.out c.match-out.how =

@@ -11,6 +11,7 @@ use Rattle.table_run.proofs.steps.step.Goals as goal
 pub returns-in-Stops : goal.returns-in-Stops
 returns-in-Stops g c =
     record {
+      left = c.in_ok-event.ensures.left;
       end =
           judged_same (program_of c.args.p.now) (g.M.State.View.view c.args.entry.now)
           (record { state = g.M.State.View.view c.args.state.now; stack = reverse c.args.stack.now.items }) c.args.choice
@@ -23,6 +24,7 @@ pub returns-in-Arrives : goal.returns-in-Arrives
 returns-in-Arrives g c =
     let there : Place = record { state = g.M.State.View.view c.walk.new.state; stack = reverse c.walk.new.stack.items } in
     record {
+      left = c.in_ok-event.ensures.left;
       end =
           judged_same (program_of c.args.p.now) (g.M.State.View.view c.args.entry.now)
           (record { state = g.M.State.View.view c.args.state.now; stack = reverse c.args.stack.now.items }) c.args.choice (Arrives there) (Arrives there)
@@ -36,6 +38,7 @@ returns-in-Exits g c =
     let entry = g.M.State.View.view c.args.entry.now in
     let new = g.M.State.View.view c.walk.new.state in
     record {
+      left = c.in_ok-event.ensures.left;
       end =
           subst (IsStepEnd c.exit.result new (reverse c.walk.new.stack.items))
           (sym (judged_same p entry (record { state = g.M.State.View.view c.args.state.now; stack = reverse c.args.stack.now.items }) c.args.choice (Exits new)
