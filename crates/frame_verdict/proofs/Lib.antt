@@ -18,6 +18,7 @@ pub mod Ready
 pub mod Trying
 pub mod Grounding
 pub mod Measured
+pub mod ByRank
 mod Satisfied
 pub mod FrameScripting
 pub mod PlainBudgets

@@ -3,15 +3,12 @@ use Rattle.std.proofs.Common.{◌≡◌, sym, ◌∙◌, subst, arith, ℕ, ◌+
 use Rattle.std.specs.Prelude.{MatchOption, min}
 use Rattle.std.proofs.lemmas.List.{length-map}
 use Rattle.call_spec.specs.Calls.{Budget}
-use Rattle.call_form.specs.Views.{budget_of}
-use Rattle.call_form.specs.declared.budget.Budget as budgets
 use Rattle.machine_spec.specs.StateText.{Layout}
 use Rattle.frame_spec.specs.Frames.{Contract}
 use Rattle.frame_spec.specs.FramePoints.{IsPrice, Point}
 use Rattle.frame_spec.specs.FrameReports.{HasMore, IsWholePrice, IsWithin, last_rank}
 use Rattle.frame_spec.specs.FrameVerdict.{Whole, frame_of}
 use Rattle.frame_laws.specs.FramePrices.{unrolled_price}
-use Rattle.frame_laws.proofs.FewSteps.{wholes_are_few}
 use Rattle.frame_laws.proofs.FramePriceLaw.{frame_price_is_price}
 use Rattle.program_points.specs.Listed.{HasTooMany}
 use Rattle.program_points.specs.declared.values.PointsFault.{PointsFault}
@@ -20,7 +17,7 @@ use Rattle.notes_value.specs.FrameViews.{contract_of}
 use Rattle.question_form.specs.declared.unrolled.Unrolled.{Unrolled}
 use Rattle.question_form.specs.FrameViews.{frame_unrolled_of}
 use Rattle.frame_verdict.specs.FrameCertificates.{IsFrameExceeded}
-use Rattle.frame_verdict.specs.FrameFunctions.{frame_at, whole_of_framed}
+use Rattle.frame_verdict.specs.FrameFunctions.{whole_of_framed}
 use Rattle.frame_verdict.specs.FrameMeasures.{AreMeasured, IsFrameUnrolled, IsMeasuredTo, IsPriceBelow}
 use Rattle.frame_verdict.specs.declared.framed.Framed.{Framed}
 use Rattle.frame_verdict.specs.declared.measuring.Left.{Left}
@@ -97,10 +94,3 @@ pub measured_last : {M I S : Type 0} {ms : _} {vs : _} (x : Framed M I S ms vs) 
     IsMeasuredTo (whole_of_framed x) (length x.contracts.now) layout b y → IsMeasuredTo (whole_of_framed x) (last_rank (whole_of_framed x)) layout b y
 measured_last x layout b y h =
     subst (λ (n : ℕ). IsMeasuredTo (whole_of_framed x) n layout b y) (sym (length-map x.contracts.now contract_of)) h
-
--- a frame of a whole that is within the budgets has not too many points
-pub none_too_many : {M I S : Type 0} {ms : _} {vs : _} (x : Framed M I S ms vs) (b : budgets.Budget) (rank : ℕ) → rank ≤ length x.contracts.now →
-    IsWithin (whole_of_framed x) (budget_of b) → (e : PointsFault) → HasTooMany (frame_at x rank) b.unroll b.points e → (count : ℕ) → e ≡ TooMany count → ⊥
-none_too_many x b rank low is e h count same =
-    let more = subst (λ (z : PointsFault). HasTooMany (frame_at x rank) b.unroll b.points z) same h in
-    wholes_are_few (whole_of_framed x) b.unroll b.points rank (let l = length-map x.contracts.now contract_of in omega arith) is.points more.0

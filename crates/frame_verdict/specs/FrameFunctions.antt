@@ -1,5 +1,5 @@
 -- The program, the whole and the frames of a program with invariants or contracts, and what its verdict needs.
-use Rattle.std.specs.Prelude.{ℕ, ◌≡◌, ◌≢◌, ◌≤◌, ◌<◌, ◌^◌, true, All, List, [], Option, Some, None, length, map, nat_eq, slice_get, sum_by}
+use Rattle.std.specs.Prelude.{ℕ, ◌≡◌, ◌≢◌, ◌≤◌, ◌<◌, ◌^◌, true, All, List, [], Option, Some, None, length, map, nat_eq, slice_get, slice_index_or, sum_by}
 use Rattle.std.specs.List.{list_any}
 use Rattle.std.specs.List.Sorted.{IsStrictlyIncreasing}
 use Rattle.machine_spec.specs.Machine.{Machine, IsAtPlace}
@@ -15,6 +15,7 @@ use Rattle.frame_spec.specs.FrameVerdict.{Whole}
 use Rattle.notes_value.specs.FrameViews.{contract_of}
 use Rattle.notes_value.specs.NoteViews.{notes_of}
 use Rattle.notes_value.specs.Reads.{IsOver}
+use Rattle.notes_value.specs.declared.notes.Notes.{Notes as Held}
 use Rattle.program_value.specs.Programs.{program_of}
 use Rattle.question_form.specs.declared.unrolled.Unrolled.{Unrolled}
 use Rattle.table_run.specs.FrameEnds.{frame_of}
@@ -48,6 +49,11 @@ notes_by n (Some x) = record n { requires = x.needs; ensures = []; fixed = [] }
 
 abbrev pub IsNotesAt : {M I S : _} {d : _} {v : _} → Framed M I S d v → (rank : ℕ) → Notes → Type 0
 IsNotesAt x rank n = n ≡ notes_by (notes_of x.program.notes.now) (slice_get (contracts_of x) rank)
+
+-- the notes of the frames of the contracts below a rank, in order
+pub record AreNotesTo {M I S : _} {d : _} {v : _} (x : Framed M I S d v) (rank : ℕ) (list : List Held) : Type 0 where
+  pub count : length list ≡ rank
+  pub each : (r : ℕ) (z : Held) → r < rank → IsNotesAt x r (notes_of (slice_index_or list r z))
 
 -- The lines of a contract are over the words of a machine, each that writes does so to one byte at least, all of them together to fewer than 2 ^ 64; it changes
 -- registers and flags of the machine alone; and a row can stand at its address.

@@ -1,5 +1,5 @@
 -- What unrolled frames come to by the budgets.
-use Rattle.std.specs.Prelude.{ℕ, ◌≡◌, ◌≢◌, ◌<◌, ◌+◌, ◌-◌, ◌^◌, Contains, List, Some, length, slice_get, sum_by}
+use Rattle.std.specs.Prelude.{ℕ, ◌≡◌, ◌≢◌, ◌<◌, ◌+◌, ◌-◌, ◌^◌, Contains, List, Some, length, slice_get, slice_index_or, sum_by}
 use Rattle.std.specs.List.{AllZip}
 use Rattle.word_spec.specs.RowFiles.{from_to}
 use Rattle.call_spec.specs.Calls.{Budget}
@@ -19,8 +19,10 @@ use Rattle.passify.specs.Planted.{AreHeaded}
 use Rattle.unroller.specs.RootPoints.{BeginAtOwn, IsEntryFirst}
 use Rattle.frame_rounds.specs.FrameGrounds.{IsFrameGround}
 use Rattle.frame_verdict.specs.FrameCertificates.{IsFrameExceeded}
+use Rattle.frame_verdict.specs.declared.measuring.Frames.{Frames}
 use Rattle.frame_verdict.specs.declared.measuring.Left.{Left}
 use Rattle.frame_verdict.specs.declared.measuring.Measured.{Measured}
+use Rattle.frame_verdict.specs.declared.measuring.MeasuredContracts.{MeasuredContracts}
 use Rattle.frame_verdict.specs.declared.measuring.Weighed.{Weighed}
 use Rattle.frame_verdict.specs.declared.measuring.Weighed.TheVariants.{Within, Exceeded}
 
@@ -41,6 +43,16 @@ pub record IsFrameUnrolled (f : Frame) (contracts : List Contract) (k : ℕ) (la
   pub measurable : IsFrameMeasurable u
   pub places : HasPlaces f.program
   pub ground : IsFrameGround f contracts k layout u
+
+-- those of the frames below a rank are, in order
+pub record AreUnrolledTo (w : Whole) (k rank : ℕ) (layout : Layout) (list : List Unrolled) : Type 0 where
+  pub count : length list ≡ rank
+  pub each : (r : ℕ) (d : Unrolled) → r < rank → IsFrameUnrolled (frame_of w r) w.contracts k layout (slice_index_or list r d)
+
+-- so are those of all contracts, and the function's own
+pub record AreAllUnrolled (w : Whole) (k : ℕ) (layout : Layout) (x : Frames) : Type 0 where
+  pub contracts : AreUnrolledTo w k (last_rank w) layout x.contracts.items
+  pub own : IsFrameUnrolled (frame_of w (last_rank w)) w.contracts k layout x.own
 
 -- the points of the frames below a rank, each once
 pub record ArePointsBelow (w : Whole) (k rank : ℕ) (list : List RankedPoint) : Type 0 where
@@ -65,7 +77,12 @@ pub record IsMeasuredTo (w : Whole) (rank : ℕ) (layout : Layout) (b : Budget) 
   pub unrolled : IsFrameUnrolled (frame_of w rank) w.contracts b.unroll layout x.unrolled
   pub left : AreMeasured w b.unroll b.points (rank + 1) x.left
 
--- All frames are within the budgets, and the last is unrolled; or a budget is exceeded.
+-- the frames of the contracts below a rank are unrolled, and measured
+pub record AreContractsMeasured (w : Whole) (rank : ℕ) (layout : Layout) (b : Budget) (x : MeasuredContracts) : Type 0 where
+  pub unrolled : AreUnrolledTo w b.unroll rank layout x.frames.items
+  pub left : AreMeasured w b.unroll b.points rank x.left
+
+-- All frames are within the budgets, and unrolled; or a budget is exceeded.
 abbrev pub IsWeighed : Whole → Layout → Budget → Weighed → Type 0
-IsWeighed w layout b (Within u) = IsWithin w b × IsFrameUnrolled (frame_of w (last_rank w)) w.contracts b.unroll layout u
+IsWeighed w layout b (Within x) = IsWithin w b × AreAllUnrolled w b.unroll layout x
 IsWeighed w layout b (Exceeded e) = IsFrameExceeded w b e

@@ -1,5 +1,5 @@
 //! The questions of a frame of a program whose notes may have invariants or contracts, certified one by one.
-ghost use Rattle.std.specs.Prelude.{◌≤◌, ◌<◌, ℕ, All, IfOk, length, map};
+ghost use Rattle.std.specs.Prelude.{◌≤◌, ℕ, All, IfOk, length, map};
 ghost use Rattle.program_value.specs.Programs.{program_of};
 ghost use Rattle.call_form.specs.Views.{budget_of};
 ghost use Rattle.call_spec.specs.Calls as answers;
@@ -9,21 +9,20 @@ ghost use Rattle.frame_spec.specs.FrameVerdict.{Whole, frame_of};
 ghost use Rattle.machine_spec.specs.Machine.{IsAtPlace};
 ghost use Rattle.machine_spec.specs.StateText.{Layout};
 ghost use Rattle.notes_value.specs.FrameViews.{contract_of};
-ghost use Rattle.notes_value.specs.NoteViews.{notes_of};
 ghost use Rattle.question_form.specs.Asked.{frame_question};
 ghost use Rattle.question_form.specs.declared.unrolled.Unrolled.{Unrolled as UnrolledFrame};
 ghost use Rattle.frame_rounds.specs.FrameGrounds.{AnswersFrame, IsFrameGround};
 ghost use Rattle.frame_verdict.specs.FrameCertificates.{IsFrameCertificate};
-ghost use Rattle.frame_verdict.specs.FrameFunctions.{CanUnroll, IsCallable, IsNotesAt, whole_of_framed};
+ghost use Rattle.frame_verdict.specs.FrameFunctions.{IsCallable};
 ghost use Rattle.frame_verdict.specs.FrameMeasures.{IsFrameMeasurable, IsFrameUnrolled};
 
 use crate::framed::Framed;
-use crate::measuring::{Weighed, measure, unroll_within};
-use crate::ranks::notes_of_rank;
+use crate::measuring::{Weighed, measure};
+use crate::ranks::notes_of_contracts;
 use call_form::Budget;
 use frame_rounds::{FrameAnswered, decide_frame};
 use machine_law::Machine;
-use notes_value::{Contract, Notes};
+use notes_value::Contract;
 use passify::passive_of_frame;
 use program_value::Program;
 use question_form::{Asked, Unrolled};
@@ -60,46 +59,6 @@ fn certify_unrolled(
     Ok(certified(answered))
 }
 
-/// What a question of the frame of the contract of a rank comes to by the notes that are the frame's, where all frames are within the budgets. The error is want of
-/// memory.
-fn certify_by_notes<'a, M: Machine>(
-    alloc: Global,
-    framed: &Framed<'a, M>,
-    notes: &'a Notes,
-    rank: usize,
-    budget: &Budget,
-    question: Asked,
-) -> Result<Certified, AllocError>
-    requires runs { CanUnroll framed.now }
-    requires rank { rank < length framed.now.contracts.now }
-    requires notes { IsNotesAt framed.now rank (notes_of notes.now) }
-    requires within { IsWithin (whole_of_framed framed.now) (budget_of budget.now) }
-    ensures { IfOk result (IsFrameCertificate (whole_of_framed framed.now) rank (budget_of budget.now) (frame_question question)) }
-{
-    let unrolled = unroll_within::<M>(alloc, framed, notes, rank, budget)?;
-    let certified = certify_unrolled(alloc, budget, question, &unrolled)?;
-    Ok(certified)
-}
-
-/// What a question of the frame of the contract of a rank comes to, where all frames are within the budgets. The error is want of memory.
-fn certify_contract<M: Machine>(
-    alloc: Global,
-    framed: &Framed<M>,
-    rank: usize,
-    budget: &Budget,
-    question: Asked,
-) -> Result<Certified, AllocError>
-    requires runs { CanUnroll framed.now }
-    requires rank { rank < length framed.now.contracts.now }
-    requires within { IsWithin (whole_of_framed framed.now) (budget_of budget.now) }
-    ensures { IfOk result (IsFrameCertificate (whole_of_framed framed.now) rank (budget_of budget.now) (frame_question question)) }
-{
-    let notes = notes_of_rank(alloc, framed, rank)?;
-    let framed = *framed;
-    let certified = certify_by_notes::<M>(alloc, &framed, &notes, rank, budget, question)?;
-    Ok(certified)
-}
-
 /// What a question of a frame of a program comes to, at whose function's address a row can stand, within the budgets, whether it is due or not. `invariants` are the rising numbers of those assert lines of its notes that are invariants, `contracts` those of the notes in the order of their ranks;
 /// the frame is that of the contract of a rank, or with as many as there are contracts for its rank the function's own. The budgets are over all frames. Where
 /// there are no heads, the question about head states is true of nothing.
@@ -130,14 +89,12 @@ pub fn certify_frame<'a, M: Machine>(
         invariants,
         contracts,
     };
-    match measure::<M>(alloc, &framed, budget)? {
+    let notes = notes_of_contracts::<M>(alloc, &framed)?;
+    let weighed = measure::<M>(alloc, &framed, &notes, budget)?;
+    match weighed {
         Weighed::Exceeded(past) => Ok(Certified::Exceeded(past)),
-        Weighed::Within(unrolled) => {
-            if rank < contracts.len() {
-                let certified = certify_contract::<M>(alloc, &framed, rank, budget, question)?;
-                return Ok(certified);
-            }
-            let certified = certify_unrolled(alloc, budget, question, &unrolled)?;
+        Weighed::Within(frames) => {
+            let certified = certify_unrolled(alloc, budget, question, frames.of_rank(rank))?;
             Ok(certified)
         }
     }

@@ -1,18 +1,18 @@
 //! The frames of a program, measured by the budgets, which are over all of them together.
-ghost use Rattle.std.specs.Prelude.{◌≡◌, ◌≤◌, ◌<◌, ◌+◌, ◌-◌, ◌^◌, IfOk, MatchOption, length, min};
+ghost use Rattle.std.specs.Prelude.{◌≡◌, ◌≤◌, ◌<◌, ◌+◌, ℕ, ◌-◌, ◌^◌, IfOk, MatchOption, length, min};
 ghost use Rattle.call_form.specs.Views.{budget_of};
 ghost use Rattle.frame_laws.specs.FramePrices.{unrolled_price};
 ghost use Rattle.frame_spec.specs.FrameReports.{HasMore, IsWithin, last_rank};
-ghost use Rattle.frame_spec.specs.FrameVerdict.{Whole};
+ghost use Rattle.frame_spec.specs.FrameVerdict.{Whole, frame_of};
 ghost use Rattle.machine_spec.specs.StateText.{Layout};
 ghost use Rattle.notes_value.specs.NoteViews.{notes_of};
 ghost use Rattle.question_form.specs.Forms.{AreRootsFormed, AreStepsFormed, IsFormed};
 ghost use Rattle.question_form.specs.FrameViews.{frame_unrolled_of};
-ghost use Rattle.frame_verdict.specs.FrameFunctions.{CanUnroll, IsNotesAt, contracts_of, frame_at, whole_of_framed};
-ghost use Rattle.frame_verdict.specs.FrameMeasures.{AreMeasured, IsFrameUnrolled, IsMeasuredTo, IsWeighed};
+ghost use Rattle.frame_verdict.specs.FrameFunctions.{AreNotesTo, CanUnroll, IsNotesAt, whole_of_framed};
+ghost use Rattle.frame_verdict.specs.FrameMeasures.{AreAllUnrolled, AreContractsMeasured, AreMeasured, AreUnrolledTo, IsFrameUnrolled, IsMeasuredTo, IsWeighed};
 
 use crate::framed::Framed;
-use crate::ranks::{notes_of_rank, unroll_rank};
+use crate::ranks::unroll_rank;
 use call_form::Budget;
 use frame_price::frame_price;
 use machine_law::Machine;
@@ -36,11 +36,38 @@ pub struct Measured<'a> {
     left: Left,
 }
 
+/// The unrolled frames of all contracts, and what is left behind them.
+#[derive(Drop)]
+pub struct MeasuredContracts<'a> {
+    frames: Vec<Unrolled<'a>>,
+    left: Left,
+}
+
+/// The unrolled frames of a function: those of its contracts in the order of their ranks, and its own.
+#[derive(Drop)]
+pub struct Frames<'a> {
+    pub contracts: Vec<Unrolled<'a>>,
+    pub own: Unrolled<'a>,
+}
+
+impl<'a> Frames<'a> {
+    /// The frame of a rank: the function's own is behind those of all contracts.
+    pub fn of_rank(&self, rank: usize) -> &Unrolled<'a>
+        ensures { (w : Whole) (k : ℕ) (layout : Layout) → AreAllUnrolled w k layout self.now → rank ≤ last_rank w →
+            IsFrameUnrolled (frame_of w rank) w.contracts k layout result.now }
+    {
+        if rank < self.contracts.len() {
+            return &self.contracts[rank];
+        }
+        &self.own
+    }
+}
+
 /// What the budgets say of all frames.
 #[derive(Drop)]
 pub enum Weighed<'a> {
-    /// They are within the budgets; this is the function's own.
-    Within(Unrolled<'a>),
+    /// They are within the budgets.
+    Within(Frames<'a>),
     /// There are too many points, or the price is too high.
     Exceeded(Exceeded),
 }
@@ -86,70 +113,34 @@ fn measure_frame<'a, M: Machine>(
     }
 }
 
-/// What is left behind the frame of the contract of a rank by the notes that are the frame's, and those of lower ranks; none where they have too many points. The
-/// error is want of memory.
-fn measure_by_notes<'a, M: Machine>(
+/// The frames of all contracts, unrolled and measured one by one in the order of their ranks, by their notes; none where they have too many points. The error is
+/// want of memory.
+fn measure_contracts<'a, M: Machine>(
     alloc: Global,
     framed: &Framed<'a, M>,
-    notes: &'a Notes,
-    rank: usize,
+    notes: &'a [Notes],
     budget: &Budget,
-    left: Left,
-) -> Result<Option<Left>, AllocError>
+) -> Result<Option<MeasuredContracts<'a>>, AllocError>
     requires runs { CanUnroll framed.now }
-    requires rank { rank < length framed.now.contracts.now }
-    requires notes { IsNotesAt framed.now rank (notes_of notes.now) }
-    requires left { AreMeasured (whole_of_framed framed.now) budget.now.unroll budget.now.points rank left }
+    requires notes { AreNotesTo framed.now (length framed.now.contracts.now) notes.now }
     ensures { IfOk result (λ o. MatchOption o (HasMore (whole_of_framed framed.now) budget.now.unroll budget.now.points)
-        (AreMeasured (whole_of_framed framed.now) budget.now.unroll budget.now.points (rank + 1))) }
+        (AreContractsMeasured (whole_of_framed framed.now) (length framed.now.contracts.now) M.form (budget_of budget.now))) }
 {
-    match measure_frame::<M>(alloc, framed, notes, rank, budget, left)? {
-        None => Ok(None),
-        Some(measured) => Ok(Some(measured.left)),
-    }
-}
-
-/// What is left behind the frame of the contract of a rank, and those of lower ranks; none where they have too many points. The error is want of memory.
-fn measure_contract<M: Machine>(
-    alloc: Global,
-    framed: &Framed<M>,
-    rank: usize,
-    budget: &Budget,
-    left: Left,
-) -> Result<Option<Left>, AllocError>
-    requires runs { CanUnroll framed.now }
-    requires rank { rank < length framed.now.contracts.now }
-    requires left { AreMeasured (whole_of_framed framed.now) budget.now.unroll budget.now.points rank left }
-    ensures { IfOk result (λ o. MatchOption o (HasMore (whole_of_framed framed.now) budget.now.unroll budget.now.points)
-        (AreMeasured (whole_of_framed framed.now) budget.now.unroll budget.now.points (rank + 1))) }
-{
-    let notes = notes_of_rank(alloc, framed, rank)?;
-    let framed = *framed;
-    let left = measure_by_notes::<M>(alloc, &framed, &notes, rank, budget, left)?;
-    Ok(left)
-}
-
-/// What is left behind the frames of all contracts; none where they have too many points. The error is want of memory.
-fn measure_contracts<M: Machine>(
-    alloc: Global,
-    framed: &Framed<M>,
-    budget: &Budget,
-) -> Result<Option<Left>, AllocError>
-    requires runs { CanUnroll framed.now }
-    ensures { IfOk result (λ o. MatchOption o (HasMore (whole_of_framed framed.now) budget.now.unroll budget.now.points)
-        (AreMeasured (whole_of_framed framed.now) budget.now.unroll budget.now.points (length framed.now.contracts.now))) }
-{
+    let mut frames = Vec::new(alloc);
     let mut left = Left {
         points: budget.points,
         price: 0,
     };
     for rank in 0..framed.contracts.len() {
-        left = match measure_contract::<M>(alloc, framed, rank, budget, left)? {
+        match measure_frame::<M>(alloc, framed, &notes[rank], rank, budget, left)? {
             None => return Ok(None),
-            Some(left) => left,
-        };
+            Some(measured) => {
+                left = measured.left;
+                frames.push(measured.unrolled)?;
+            }
+        }
     }
-    Ok(Some(left))
+    Ok(Some(MeasuredContracts { frames, left }))
 }
 
 /// There are more points than the budget.
@@ -161,10 +152,15 @@ fn too_many<'a>(budget: &Budget) -> Weighed<'a>
     })
 }
 
-/// What the budgets say where the frames have not too many points: this is the last. The error is a price of 2^128 - 1 or more, which counts as want of memory.
-fn weigh<'a>(budget: &Budget, measured: Measured<'a>) -> Result<Weighed<'a>, AllocError>
-    ensures { (w : Whole) (layout : Layout) → IsMeasuredTo w (last_rank w) layout (budget_of budget.now) measured.entry →
-        IfOk result (IsWeighed w layout (budget_of budget.now)) }
+/// What the budgets say where the frames have not too many points: those of the contracts, and this, the last. The error is a price of 2^128 - 1 or more, which
+/// counts as want of memory.
+fn weigh<'a>(
+    budget: &Budget,
+    contracts: Vec<Unrolled<'a>>,
+    measured: Measured<'a>,
+) -> Result<Weighed<'a>, AllocError>
+    ensures { (w : Whole) (layout : Layout) → AreUnrolledTo w budget.now.unroll (last_rank w) layout contracts.entry.items →
+        IsMeasuredTo w (last_rank w) layout (budget_of budget.now) measured.entry → IfOk result (IsWeighed w layout (budget_of budget.now)) }
 {
     let Measured { unrolled, left } = measured;
     if left.price == u128::MAX {
@@ -173,49 +169,34 @@ fn weigh<'a>(budget: &Budget, measured: Measured<'a>) -> Result<Weighed<'a>, All
     if left.price > budget.size as u128 {
         return Ok(Weighed::Exceeded(Exceeded::Size { price: left.price }));
     }
-    Ok(Weighed::Within(unrolled))
+    Ok(Weighed::Within(Frames {
+        contracts,
+        own: unrolled,
+    }))
 }
 
-/// All frames of a function, measured one by one in the order of their ranks: more points than the budget, then a price above the budget. Where they are within
-/// both, the function's own is answered, which is the last. A price of 2^128 - 1 or more counts as want of memory, which is the error.
+/// All frames of a function, unrolled and measured one by one in the order of their ranks, those of contracts by their notes: more points than the budget, then a
+/// price above the budget; where they are within both, the frames. A price of 2^128 - 1 or more counts as want of memory, which is the error.
 pub fn measure<'a, M: Machine>(
     alloc: Global,
     framed: &Framed<'a, M>,
+    notes: &'a [Notes],
     budget: &Budget,
 ) -> Result<Weighed<'a>, AllocError>
     requires runs { CanUnroll framed.now }
+    requires notes { AreNotesTo framed.now (length framed.now.contracts.now) notes.now }
     ensures { IfOk result (IsWeighed (whole_of_framed framed.now) M.form (budget_of budget.now)) }
 {
-    let Some(left) = measure_contracts::<M>(alloc, framed, budget)? else {
+    let Some(contracts) = measure_contracts::<M>(alloc, framed, notes, budget)? else {
         return Ok(too_many(budget));
     };
+    let MeasuredContracts { frames, left } = contracts;
     let last = framed.contracts.len();
     match measure_frame::<M>(alloc, framed, framed.program.notes, last, budget, left)? {
         None => Ok(too_many(budget)),
         Some(measured) => {
-            let weighed = weigh(budget, measured)?;
+            let weighed = weigh(budget, frames, measured)?;
             Ok(weighed)
         }
-    }
-}
-
-/// The frame of the contract of a rank, unrolled by its notes, where all frames are within the budgets. The error is want of memory.
-pub fn unroll_within<'a, M: Machine>(
-    alloc: Global,
-    framed: &Framed<'a, M>,
-    notes: &'a Notes,
-    rank: usize,
-    budget: &Budget,
-) -> Result<Unrolled<'a>, AllocError>
-    requires runs { CanUnroll framed.now }
-    requires rank { rank ≤ length framed.now.contracts.now }
-    requires notes { IsNotesAt framed.now rank (notes_of notes.now) }
-    requires within { IsWithin (whole_of_framed framed.now) (budget_of budget.now) }
-    ensures { IfOk result (IsFrameUnrolled (frame_at framed.now rank) (contracts_of framed.now) budget.now.unroll M.form) }
-{
-    match unroll_rank::<M>(alloc, framed, notes, rank, budget.unroll, budget.points) {
-        Ok(unrolled) => Ok(unrolled),
-        Err(PointsFault::TooMany { .. }) => unreachable!(),
-        Err(PointsFault::Memory) => Err(AllocError),
     }
 }

@@ -10,14 +10,15 @@ ghost use Rattle.machine_spec.specs.StateText.{Layout};
 ghost use Rattle.notes_value.specs.FrameViews.{contract_of};
 ghost use Rattle.notes_value.specs.NoteViews.{notes_of};
 ghost use Rattle.call_form.specs.declared.budget.Budget.{Budget as Budgets};
-ghost use Rattle.frame_verdict.specs.FrameFunctions.{CanRun, IsCallable, IsNotesAt, IsReady, whole_of_framed};
+ghost use Rattle.frame_verdict.specs.FrameFunctions.{AreNotesTo, CanRun, IsCallable, IsNotesAt, IsReady, whole_of_framed};
+ghost use Rattle.frame_verdict.specs.FrameMeasures.{AreAllUnrolled, AreUnrolledTo};
 ghost use Rattle.frame_verdict.specs.FrameVerdicts.{IsFrameVerdict, evidence_of, report_of};
 ghost use Rattle.frame_verdict.specs.JudgedFrames.{ArePassed, ArePassedTo, IsJudged, IsPassing};
 
 use crate::framed::Framed;
 use crate::judged::{Ended, Judged};
-use crate::measuring::{Weighed, measure, unroll_within};
-use crate::ranks::notes_of_rank;
+use crate::measuring::{Frames, Weighed, measure};
+use crate::ranks::notes_of_contracts;
 use crate::segments::Shown;
 use crate::verifying::judge_frame;
 use crate::{FrameVerdict, Named, Passed};
@@ -76,58 +77,42 @@ fn pass_or_end(rank: usize, judged: Judged) -> Passing
     }
 }
 
-/// What the frame of the contract of a rank comes to by the notes that are the frame's, where those of lower ranks pass. The error is want of memory.
-fn judge_by_notes<'a, M: Machine>(
+/// What the unrolled frame of the contract of a rank comes to, by its notes, where those of lower ranks pass. The error is want of memory.
+fn judge_contract<'a, M: Machine>(
     alloc: Global,
     framed: &Framed<'a, M>,
     notes: &'a Notes,
     budget: &Budget,
     rank: usize,
+    unrolled: &Unrolled,
 ) -> Result<Passing, AllocError>
-    requires runs { CanRun framed.now }
     requires rank { rank < length framed.now.contracts.now }
     requires notes { IsNotesAt framed.now rank (notes_of notes.now) }
-    requires within { IsWithin (whole_of_framed framed.now) (budget_of budget.now) }
+    requires ready { IsReady M.form framed.now budget.now rank unrolled.now }
     requires below { PassBelow (whole_of_framed framed.now) budget.now.unroll rank }
     ensures { IfOk result (IsPassing (whole_of_framed framed.now) rank M.form budget.now) }
 {
-    let unrolled = unroll_within::<M>(alloc, framed, notes, rank, budget)?;
-    let judged = judge_frame::<M>(alloc, framed, notes, budget, rank, &unrolled)?;
+    let judged = judge_frame::<M>(alloc, framed, notes, budget, rank, unrolled)?;
     Ok(pass_or_end(rank, judged))
 }
 
-/// What the frame of the contract of a rank comes to, where those of lower ranks pass. The error is want of memory.
-fn judge_contract<M: Machine>(
+/// What the unrolled frames of all contracts come to, by their notes, in the order of their ranks up to the first that does not pass. The error is want of memory.
+fn judge_contracts<'a, M: Machine>(
     alloc: Global,
-    framed: &Framed<M>,
+    framed: &Framed<'a, M>,
+    notes: &'a [Notes],
     budget: &Budget,
-    rank: usize,
-) -> Result<Passing, AllocError>
-    requires runs { CanRun framed.now }
-    requires rank { rank < length framed.now.contracts.now }
-    requires within { IsWithin (whole_of_framed framed.now) (budget_of budget.now) }
-    requires below { PassBelow (whole_of_framed framed.now) budget.now.unroll rank }
-    ensures { IfOk result (IsPassing (whole_of_framed framed.now) rank M.form budget.now) }
-{
-    let notes = notes_of_rank(alloc, framed, rank)?;
-    let framed = *framed;
-    let passing = judge_by_notes::<M>(alloc, &framed, &notes, budget, rank)?;
-    Ok(passing)
-}
-
-/// What the frames of all contracts come to, in the order of their ranks up to the first that does not pass. The error is want of memory.
-fn judge_contracts<M: Machine>(
-    alloc: Global,
-    framed: &Framed<M>,
-    budget: &Budget,
+    frames: &[Unrolled],
 ) -> Result<AllPassing, AllocError>
     requires runs { CanRun framed.now }
+    requires notes { AreNotesTo framed.now (length framed.now.contracts.now) notes.now }
     requires within { IsWithin (whole_of_framed framed.now) (budget_of budget.now) }
+    requires frames { AreUnrolledTo (whole_of_framed framed.now) budget.now.unroll (length framed.now.contracts.now) M.form frames.now }
     ensures { IfOk result (ArePassed (whole_of_framed framed.now) M.form budget.now) }
 {
     let mut passed = Vec::new(alloc);
     for rank in 0..framed.contracts.len() {
-        match judge_contract::<M>(alloc, framed, budget, rank)? {
+        match judge_contract::<M>(alloc, framed, &notes[rank], budget, rank, &frames[rank])? {
             Passing::Passes(one) => passed.push(one)?,
             Passing::Ends(verdict) => return Ok(AllPassing::End(verdict)),
         }
@@ -218,22 +203,27 @@ fn last_verdict(
     }
 }
 
-/// The verdict where all frames are within the budgets; this is the function's own, unrolled. The error is want of memory.
-fn verdict_within<M: Machine>(
+/// The verdict where all frames are within the budgets, by the frames, unrolled, and the notes of those of contracts. The error is want of memory.
+fn verdict_within<'a, M: Machine>(
     alloc: Global,
-    framed: &Framed<M>,
+    framed: &Framed<'a, M>,
+    notes: &'a [Notes],
     budget: &Budget,
-    unrolled: &Unrolled,
+    frames: &Frames,
 ) -> Result<FrameVerdict, AllocError>
-    requires ready { IsReady M.form framed.now budget.now (length framed.now.contracts.now) unrolled.now }
+    requires runs { CanRun framed.now }
+    requires notes { AreNotesTo framed.now (length framed.now.contracts.now) notes.now }
+    requires within { IsWithin (whole_of_framed framed.now) (budget_of budget.now) }
+    requires frames { AreAllUnrolled (whole_of_framed framed.now) budget.now.unroll M.form frames.now }
     ensures { IfOk result (IsFrameVerdict (whole_of_framed framed.now) M.form budget.now) }
 {
-    let passed = match judge_contracts::<M>(alloc, framed, budget)? {
+    let passed = match judge_contracts::<M>(alloc, framed, notes, budget, &frames.contracts)? {
         AllPassing::Pass(passed) => passed,
         AllPassing::End(verdict) => return Ok(verdict),
     };
     let last = framed.contracts.len();
-    let judged = judge_frame::<M>(alloc, framed, framed.program.notes, budget, last, unrolled)?;
+    let own = framed.program.notes;
+    let judged = judge_frame::<M>(alloc, framed, own, budget, last, &frames.own)?;
     let verdict = last_verdict(last, passed, judged)?;
     Ok(verdict)
 }
@@ -270,10 +260,12 @@ pub fn verify_frame<'a, M: Machine>(
         invariants,
         contracts,
     };
-    match measure::<M>(alloc, &framed, budget)? {
+    let notes = notes_of_contracts::<M>(alloc, &framed)?;
+    let weighed = measure::<M>(alloc, &framed, &notes, budget)?;
+    match weighed {
         Weighed::Exceeded(past) => Ok(FrameVerdict::Exceeded(past)),
-        Weighed::Within(unrolled) => {
-            let verdict = verdict_within::<M>(alloc, &framed, budget, &unrolled)?;
+        Weighed::Within(frames) => {
+            let verdict = verdict_within::<M>(alloc, &framed, &notes, budget, &frames)?;
             Ok(verdict)
         }
     }

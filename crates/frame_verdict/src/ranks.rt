@@ -6,7 +6,7 @@ ghost use Rattle.notes_value.specs.NoteViews.{notes_of};
 ghost use Rattle.notes_value.specs.declared.notes.Contract.{Contract as Listed};
 ghost use Rattle.program_points.specs.Listed.{HasTooMany};
 ghost use Rattle.unroller.specs.Frames.{parts_frame};
-ghost use Rattle.frame_verdict.specs.FrameFunctions.{CanUnroll, IsNotesAt, contracts_of, frame_at};
+ghost use Rattle.frame_verdict.specs.FrameFunctions.{AreNotesTo, CanUnroll, IsNotesAt, contracts_of, frame_at};
 ghost use Rattle.frame_verdict.specs.FrameMeasures.{IsFrameUnrolled};
 
 use crate::framed::Framed;
@@ -94,7 +94,7 @@ fn parts_of<'a, M: Machine>(
 }
 
 /// The notes of the frame of the contract of a rank, in memory of their own. The error is want of memory.
-pub fn notes_of_rank<M: Machine>(
+fn notes_of_rank<M: Machine>(
     alloc: Global,
     framed: &Framed<M>,
     rank: usize,
@@ -104,6 +104,20 @@ pub fn notes_of_rank<M: Machine>(
 {
     let notes = contract_notes(alloc, framed.program.notes, &framed.contracts[rank])?;
     Ok(notes)
+}
+
+/// The notes of the frames of all contracts, in the order of their ranks, in memory of their own. The error is want of memory.
+pub fn notes_of_contracts<M: Machine>(
+    alloc: Global,
+    framed: &Framed<M>,
+) -> Result<Vec<Notes>, AllocError>
+    ensures { IfOk result (λ v. AreNotesTo framed.now (length framed.now.contracts.now) v.items) }
+{
+    let mut all = Vec::new(alloc);
+    for rank in 0..framed.contracts.len() {
+        all.push(notes_of_rank(alloc, framed, rank)?)?;
+    }
+    Ok(all)
 }
 
 /// The frame of a rank, unrolled by the notes that are the frame's: those of the file for the function's own.

@@ -1,5 +1,5 @@
 //! The scripts of the questions of a frame of a program whose notes may have invariants or contracts, for another solver.
-ghost use Rattle.std.specs.Prelude.{◌≤◌, ◌<◌, ℕ, All, IfOk, length, map, string_bytes};
+ghost use Rattle.std.specs.Prelude.{◌≤◌, ℕ, All, IfOk, length, map, string_bytes};
 ghost use Rattle.program_value.specs.Programs.{program_of};
 ghost use Rattle.call_form.specs.Views.{budget_of};
 ghost use Rattle.frame_spec.specs.FrameReports.{IsWithin};
@@ -9,23 +9,22 @@ ghost use Rattle.known_bytes.specs.Runs.{AreRuns};
 ghost use Rattle.machine_spec.specs.Machine.{IsAtPlace};
 ghost use Rattle.machine_spec.specs.StateText.{Layout};
 ghost use Rattle.notes_value.specs.FrameViews.{contract_of};
-ghost use Rattle.notes_value.specs.NoteViews.{notes_of};
 ghost use Rattle.question_form.specs.Asked as questions;
 ghost use Rattle.question_form.specs.FrameQuestions.{frame_passive_of};
 ghost use Rattle.question_form.specs.FrameViews.{frame_unrolled_of};
 ghost use Rattle.smtlib_print.specs.FrameTold.{TellsFrameScript};
 ghost use Rattle.smtlib_print.specs.Numbered.{AreOnce};
 ghost use Rattle.start_value.specs.Starts.{layout_of};
-ghost use Rattle.frame_verdict.specs.FrameFunctions.{CanUnroll, IsCallable, IsNotesAt, whole_of_framed};
+ghost use Rattle.frame_verdict.specs.FrameFunctions.{IsCallable};
 ghost use Rattle.frame_verdict.specs.FrameMeasures.{IsFrameMeasurable, IsFrameUnrolled};
 ghost use Rattle.frame_verdict.specs.FrameScripted.{IsFrameScripted};
 
 use crate::framed::Framed;
-use crate::measuring::{Weighed, measure, unroll_within};
-use crate::ranks::notes_of_rank;
+use crate::measuring::{Weighed, measure};
+use crate::ranks::notes_of_contracts;
 use call_form::Budget;
 use machine_law::Machine;
-use notes_value::{Contract, Notes};
+use notes_value::Contract;
 use passify::passive_of_frame;
 use program_value::Program;
 use question_form::{Asked, Passive, Unrolled};
@@ -66,46 +65,6 @@ fn script_unrolled(
     Ok(Scripted::Script(text))
 }
 
-/// The script of a question of the frame of the contract of a rank by the notes that are the frame's, where all frames are within the budgets. The error is want of
-/// memory, or of numbers.
-fn script_by_notes<'a, M: Machine>(
-    alloc: Global,
-    framed: &Framed<'a, M>,
-    notes: &'a Notes,
-    rank: usize,
-    budget: &Budget,
-    question: Asked,
-) -> Result<Scripted, AllocError>
-    requires runs { CanUnroll framed.now }
-    requires rank { rank < length framed.now.contracts.now }
-    requires notes { IsNotesAt framed.now rank (notes_of notes.now) }
-    requires within { IsWithin (whole_of_framed framed.now) (budget_of budget.now) }
-    ensures { IfOk result (IsFrameScripted (whole_of_framed framed.now) rank M.form (budget_of budget.now) (questions.frame_question question)) }
-{
-    let unrolled = unroll_within::<M>(alloc, framed, notes, rank, budget)?;
-    let scripted = script_unrolled(alloc, budget, question, &unrolled)?;
-    Ok(scripted)
-}
-
-/// The script of a question of the frame of the contract of a rank, where all frames are within the budgets. The error is want of memory, or of numbers.
-fn script_contract<M: Machine>(
-    alloc: Global,
-    framed: &Framed<M>,
-    rank: usize,
-    budget: &Budget,
-    question: Asked,
-) -> Result<Scripted, AllocError>
-    requires runs { CanUnroll framed.now }
-    requires rank { rank < length framed.now.contracts.now }
-    requires within { IsWithin (whole_of_framed framed.now) (budget_of budget.now) }
-    ensures { IfOk result (IsFrameScripted (whole_of_framed framed.now) rank M.form (budget_of budget.now) (questions.frame_question question)) }
-{
-    let notes = notes_of_rank(alloc, framed, rank)?;
-    let framed = *framed;
-    let scripted = script_by_notes::<M>(alloc, &framed, &notes, rank, budget, question)?;
-    Ok(scripted)
-}
-
 /// The script of a question about a frame of the function at an address of an image, at which a row can stand, by its notes and within the budgets, in SMT-LIB
 /// 2.6, whether the question is due or not. `invariants` are the rising numbers of those assert lines of its notes that are invariants, `contracts` those of the
 /// notes in the order of their ranks; the frame is that of the contract of a rank, or with as many as there are contracts for its rank the function's own. The
@@ -137,14 +96,12 @@ pub fn script_frame<'a, M: Machine>(
         invariants,
         contracts,
     };
-    match measure::<M>(alloc, &framed, budget)? {
+    let notes = notes_of_contracts::<M>(alloc, &framed)?;
+    let weighed = measure::<M>(alloc, &framed, &notes, budget)?;
+    match weighed {
         Weighed::Exceeded(past) => Ok(Scripted::Exceeded(past)),
-        Weighed::Within(unrolled) => {
-            if rank < contracts.len() {
-                let scripted = script_contract::<M>(alloc, &framed, rank, budget, question)?;
-                return Ok(scripted);
-            }
-            let scripted = script_unrolled(alloc, budget, question, &unrolled)?;
+        Weighed::Within(frames) => {
+            let scripted = script_unrolled(alloc, budget, question, frames.of_rank(rank))?;
             Ok(scripted)
         }
     }

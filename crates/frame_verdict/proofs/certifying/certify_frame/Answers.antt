@@ -1,15 +1,25 @@
-use Rattle.frame_verdict.specs.FrameFunctions.{whole_of_framed}
+use Rattle.std.proofs.Common.{List, length, subst, sym}
+use Rattle.notes_value.specs.declared.notes.Notes.{Notes as Held}
+use Rattle.frame_verdict.specs.FrameFunctions.{AreNotesTo, whole_of_framed}
 use Rattle.frame_verdict.specs.declared.framed.Framed.{Framed}
-use Rattle.frame_verdict.proofs.Ready.{all_within, exceeded, last_of, own_unrolled}
+use Rattle.frame_verdict.proofs.Ready.{all_unrolled, all_within, exceeded}
+use Rattle.frame_verdict.proofs.RankedVerdicts.{at_most}
 use Rattle.frame_verdict.proofs.certifying.certify_frame.Goals as goal
 
-pub measure-requires : goal.measure-requires
-measure-requires g c = record {
-  runs = record {
-    place = c.requires.place;
-    callable = c.requires.callable;
-  };
+pub measure-requires-clause-runs : goal.measure-requires-clause-runs
+measure-requires-clause-runs g c = record {
+  place = c.requires.place;
+  callable = c.requires.callable;
 }
+
+pub measure-requires-clause-notes : goal.measure-requires-clause-notes
+measure-requires-clause-notes g c =
+    let x : Framed g.row.M.Denot g.row.M-Insn.Denot g.row.M-State.Denot g.M.Machine g.M.State.View = record {
+      program = c.args.program.now;
+      invariants = c.args.invariants;
+      contracts = c.args.contracts;
+    } in
+    subst (λ (l : List Held). AreNotesTo x (length x.contracts.now) l) (sym c.deref.ensures.value) c.in_ok-notes.ensures
 
 pub returns-in-Exceeded : goal.returns-in-Exceeded
 returns-in-Exceeded g c =
@@ -18,17 +28,7 @@ returns-in-Exceeded g c =
       invariants = c.args.invariants;
       contracts = c.args.contracts;
     } in
-    exceeded (whole_of_framed x) g.M.Machine.form c.args.budget.now c.in-Exceeded.past c.in_ok-past.field-0 c.in_ok-past.ensures
-    c.in-Exceeded.is
-
-pub certify_contract-requires-clause-within : goal.certify_contract-requires-clause-within
-certify_contract-requires-clause-within g c =
-    let x : Framed g.row.M.Denot g.row.M-Insn.Denot g.row.M-State.Denot g.M.Machine g.M.State.View = record {
-      program = c.args.program.now;
-      invariants = c.args.invariants;
-      contracts = c.args.contracts;
-    } in
-    all_within g.M.Machine.form x c.args.budget.now c.in-Within.unrolled c.in_ok-past.field-0 c.in_ok-past.ensures c.in-Within.is
+    exceeded (whole_of_framed x) g.M.Machine.form c.args.budget.now c.in-Exceeded.past c.in_ok-weighed.weighed c.in_ok-weighed.ensures c.in-Exceeded.is
 
 pub certify_unrolled-requires : goal.certify_unrolled-requires
 certify_unrolled-requires g c =
@@ -38,20 +38,20 @@ certify_unrolled-requires g c =
       contracts = c.args.contracts;
     } in
     record {
-      measurable = (own_unrolled g.M.Machine.form x c.args.budget.now c.in-Within.unrolled c.in_ok-past.field-0 c.in_ok-past.ensures c.in-Within.is
-          c.args.rank (last_of x c.args.rank c.requires.rank c.if-rank-contracts.false)).measurable;
+      measurable = (c.of_rank.ensures (whole_of_framed x) c.args.budget.now.unroll g.M.Machine.form
+          (all_unrolled g.M.Machine.form x c.args.budget.now c.in_ok-weighed.weighed c.in_ok-weighed.ensures c.in-Within.frames c.in-Within.is)
+          (at_most x c.args.rank c.requires.rank)).measurable;
     }
 
-pub returns-in_ok-certified-in-Within-2 : goal.returns-in_ok-certified-in-Within-2
-returns-in_ok-certified-in-Within-2 g c =
+pub returns : goal.returns
+returns g c =
     let x : Framed g.row.M.Denot g.row.M-Insn.Denot g.row.M-State.Denot g.M.Machine g.M.State.View = record {
       program = c.args.program.now;
       invariants = c.args.invariants;
       contracts = c.args.contracts;
     } in
-    let b = c.args.budget.now in
-    let form = g.M.Machine.form in
-    c.in_ok-certified-in-Within-2.ensures (whole_of_framed x) c.args.rank form
-    (all_within form x b c.in-Within.unrolled c.in_ok-past.field-0 c.in_ok-past.ensures c.in-Within.is)
-    (own_unrolled form x b c.in-Within.unrolled c.in_ok-past.field-0 c.in_ok-past.ensures c.in-Within.is c.args.rank
-    (last_of x c.args.rank c.requires.rank c.if-rank-contracts.false))
+    c.in_ok-certified-in-Within.ensures (whole_of_framed x) c.args.rank g.M.Machine.form
+    (all_within g.M.Machine.form x c.args.budget.now c.in_ok-weighed.weighed c.in_ok-weighed.ensures c.in-Within.frames c.in-Within.is)
+    (c.of_rank.ensures (whole_of_framed x) c.args.budget.now.unroll g.M.Machine.form
+    (all_unrolled g.M.Machine.form x c.args.budget.now c.in_ok-weighed.weighed c.in_ok-weighed.ensures c.in-Within.frames c.in-Within.is)
+    (at_most x c.args.rank c.requires.rank))
