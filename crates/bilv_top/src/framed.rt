@@ -59,7 +59,7 @@ impl Framed {
 
 /// The notes that a text says over an image, with their invariants and contracts, by some options of the image, and the address of their function, or the answer
 /// that refuses them. The error is out of memory.
-fn find_framed(
+pub fn find_framed(
     alloc: Global,
     image: &Image,
     text: Vec<u8>,

@@ -30,6 +30,9 @@ mod texts;
 mod upgrade;
 mod verify;
 
-pub use answer::Evidence;
+pub use answer::{Answer, Evidence, Step};
 pub use call::{Outcome, bilv};
+pub use framed::{Framed, find_framed};
+pub use inputs::{NOTES_LIMIT, program_on, refuse_elf};
+pub use machines::layout;
 pub use program::answer_words;

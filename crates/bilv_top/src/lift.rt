@@ -11,7 +11,8 @@ ghost use Rattle.io_edges.specs.Begun.{AreBegun};
 
 use crate::answer::{Answer, Evidence, Step};
 use crate::inputs::{read_elf, refuse_elf};
-use crate::machines::{layout, on_machine};
+use crate::machines::layout;
+use crate::on_machine;
 use arm_lift::Arm;
 use command_line::Options;
 use elf32_reader::{Image, read_image};

@@ -49,7 +49,9 @@ pub fn is_narrow(image: &Image, options: Options) -> bool
     }
 }
 
-/// Calls a function that is generic over machines with the machine of an image by some options. In square brackets stand its further type arguments.
+/// Calls a function that is generic over machines with the machine of an image by some options. In square brackets stand its further type arguments. The caller has
+/// `layout`, `Layout`, `Profile`, `Rv32` and `Arm` in scope.
+#[macro_export]
 macro_rules! on_machine {
     ($image:expr, $options:expr, $call:ident [$($more:ident),*] ($($argument:expr),*)) => {
         match layout($image, $options) {
@@ -64,5 +66,3 @@ macro_rules! on_machine {
         }
     };
 }
-
-pub(crate) use on_machine;

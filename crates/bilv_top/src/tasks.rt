@@ -14,8 +14,9 @@ ghost use Rattle.bilv_top.specs.Reads.{names_of_task};
 
 use crate::answer::{Answer, Step};
 use crate::inputs::{Found, program_on, read_elf, read_program};
-use crate::machines::{layout, on_machine};
+use crate::machines::layout;
 use crate::model::model_by;
+use crate::on_machine;
 use arm_lift::Arm;
 use command_line::{Asked, Budget, Options};
 use elf32_reader::Image;

@@ -1,6 +1,4 @@
 //! Why a template is refused.
-use std::fmt;
-use thiserror::Error;
 
 /// Why a line is refused.
 #[derive(Debug, Drop)]
@@ -16,31 +14,15 @@ pub enum Refusal {
     LongLine,
 }
 
-impl fmt::Display for Refusal {
-    fn fmt<W: fmt::Write>(&self, f: &mut fmt::Formatter<W>) -> fmt::Result {
-        match self {
-            Refusal::UnknownSymbol { nearest: None } => write!(f, "no such symbol"),
-            Refusal::UnknownSymbol {
-                nearest: Some(name),
-            } => write!(f, "no such symbol, the nearest is {name}"),
-            Refusal::AmbiguousSymbol => write!(f, "symbols of this name differ"),
-            Refusal::WrongForm => write!(f, "not in form"),
-            Refusal::LongLine => write!(f, "longer than 1024 bytes"),
-        }
-    }
-}
-
 /// Why a template is refused, for its first refusal.
-#[derive(Debug, Drop, Error)]
+#[derive(Debug, Drop)]
 pub enum TemplateFault {
     /// Lines and columns count from 1; columns count bytes.
-    #[error("line {line} column {column}: {refusal}")]
     Refused {
         line: usize,
         column: usize,
         refusal: Refusal,
     },
     /// Memory ran out.
-    #[error("memory")]
     Memory,
 }

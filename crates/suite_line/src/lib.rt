@@ -3,5 +3,7 @@
 
 mod program;
 mod reader;
+mod request;
 
 pub use reader::read_request;
+pub use request::{Files, Request};

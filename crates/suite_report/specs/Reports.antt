@@ -2,6 +2,8 @@
 use Rattle.std.specs.Prelude.{ℕ, ◌+◌, ◌-◌, ◌==◌, ◌&&◌, ◌||◌, max, Bool, true, false, List, [], ◌∷◌, ◌++◌, codes, drop, fold, length, map, nat_eq, nat_lt, if◌then◌else◌}
 use Rattle.std.specs.List.{starts_with}
 use Rattle.word_spec.specs.Texts.{blank, line, line_feed, number_text}
+use Rattle.note_check.specs.Warnings.{warning_text}
+use Rattle.note_check.specs.declared.warning.Warning.{Warning}
 
 -- a check by its name and the words that are expected of it, and what it came to
 pub record Told : Type 0 where
@@ -9,6 +11,7 @@ pub record Told : Type 0 where
   pub expect : List ℕ
   pub status : ℕ
   pub report : List ℕ
+  pub warnings : List Warning
 
 -- a word ends in front of a text
 abbrev pub ends_word : List ℕ → Bool
@@ -36,13 +39,14 @@ abbrev pub came_words : (expected : Bool) → List ℕ
 came_words true = codes "ok "
 came_words false = codes "FAILED "
 
+-- warnings, behind a report
+abbrev pub warnings_text : List Warning → List ℕ
+warnings_text [] = []
+warnings_text (w ∷ ws) = codes "; warning: " ++ warning_text w ++ warnings_text ws
+
 -- the line of a check
 abbrev pub told_line : Told → List ℕ
-told_line t = came_words (is_expected t) ++ t.name ++ codes ": " ++ line (first_line t.report)
-
-abbrev pub told_lines : List Told → List ℕ
-told_lines [] = []
-told_lines (t ∷ ts) = told_line t ++ told_lines ts
+told_line t = came_words (is_expected t) ++ t.name ++ codes ": " ++ line (first_line t.report ++ warnings_text t.warnings)
 
 -- how many checks came to what is expected
 abbrev pub one_if : Bool → ℕ
@@ -57,15 +61,19 @@ abbrev pub summary : (all expected : ℕ) → List ℕ
 summary all expected =
     line (number_text all ++ codes " checks, " ++ number_text expected ++ codes " ok, " ++ number_text (all - expected) ++ codes " FAILED")
 
--- what a run prints: the lines of the checks in their order, and the summary
-abbrev pub run_text : List Told → List ℕ
-run_text ts = told_lines ts ++ summary (length ts) (expected_count ts)
+abbrev pub has_some : List Warning → Bool
+has_some [] = false
+has_some (w ∷ ws) = true
+
+-- a check came to a vacuous answer, or to one with a warning
+abbrev pub means_less : Told → Bool
+means_less t = begins_with (codes "vacuous") t.report || has_some t.warnings
 
 -- The status that a check asks for: 0 where it came to what is expected, and else its own from 2 on, and 1 below that. A strict suite asks 1 for a vacuous answer
--- that is expected.
+-- that is expected, and for one with a warning.
 abbrev pub asked_status : (strict : Bool) → Told → ℕ
 asked_status strict t =
-    if is_expected t then (if strict && begins_with (codes "vacuous") t.report then 1 else 0) else max t.status 1
+    if is_expected t then (if strict && means_less t then 1 else 0) else max t.status 1
 
 -- how bad a status is: done, unknown, failed, and any other, by which a question was not asked
 abbrev pub badness : ℕ → ℕ

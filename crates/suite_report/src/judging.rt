@@ -37,15 +37,25 @@ pub fn is_expected(told: &Told<'_>) -> bool
     begins_with(told.expect.as_bytes(), told.report)
 }
 
+/// Whether a check came to a vacuous answer, or to one with a warning.
+fn means_less(told: &Told<'_>) -> bool
+    ensures { result ≡ spec.means_less (told_of told.now) }
+{
+    if begins_with(b"vacuous", told.report) {
+        return true;
+    }
+    !told.warnings.is_empty()
+}
+
 /// The status that a check asks for: 0 where it came to what is expected; else its own from 2 on, and 1 below that. Where one is strict, 1 for a vacuous answer
-/// that is expected.
+/// that is expected, and for one with a warning.
 pub fn asked_status(strict: bool, told: &Told<'_>) -> u8
     ensures { result ≡ spec.asked_status strict (told_of told.now) }
 {
     if !is_expected(told) {
         return told.status.max(1);
     }
-    if strict && begins_with(b"vacuous", told.report) {
+    if strict && means_less(told) {
         return 1;
     }
     0

@@ -6,16 +6,18 @@ use Rattle.io_edges.specs.WriteFaults.{Stopped}
 use Rattle.io_edges.specs.declared.WriteFault.{WriteFault}
 use Rattle.io_edges.proofs.Meeting.{front_of_stopped}
 use Rattle.suite_file.specs.Suites.{Check}
-use Rattle.suite_run.specs.Ends.{IsPrinted, cut as printing_cut, IsChosenEnd, listed, ran, not_begun}
+use Rattle.suite_run.specs.Ends.{IsChosenEnd, listed, ran, not_begun}
+use Rattle.suite_run.specs.Prints.{IsPrinted, cut as printing_cut}
 use Rattle.suite_run.specs.Loads.{IsLoaded, read_failed, too_large, was_read, Loaded}
 use Rattle.suite_run.specs.Requests.{Run}
 use Rattle.suite_run.specs.Runs.{IsRun, whole, cut, no_memory}
 use Rattle.suite_run.proofs.Wider.{Same, Rising, answers_wider, rose_wider}
+use Rattle.note_check.specs.declared.warning.Warning.{Warning}
 
 -- a text of which a write stopped
-pub cut_printed : (text : List ℕ) (before after : Option (List ℕ)) (sink_before sink_after : ℕ) (e : WriteFault) → Stopped before text after e →
-    Rose sink_before sink_after → IsPrinted text before after sink_before sink_after 7
-cut_printed text before after sink_before sink_after e told risen =
+pub cut_printed : (text : List ℕ) (done : ℕ) (before after : Option (List ℕ)) (sink_before sink_after : ℕ) (e : WriteFault) → Stopped before text after e →
+    Rose sink_before sink_after → IsPrinted text done before after sink_before sink_after 7
+cut_printed text done before after sink_before sink_after e told risen =
     let front = front_of_stopped before text after e told in
     printing_cut front.0 front.1 front.2 risen refl
 
@@ -26,22 +28,22 @@ load_wider held first before after name l late (read_failed risen is) =
 load_wider held first before after name l late (too_large longer is) = too_large longer is
 load_wider held first before after name l late (was_read bytes agrees is) = was_read bytes agrees is
 
-module _ (Answers : List (List ℕ) → (file notes : List ℕ) → (status : ℕ) → (report : List ℕ) → Type 0) (held now : List ℕ → Held)
+module _ (Answers : List (List ℕ) → (file notes : List ℕ) → (status : ℕ) → (report : List ℕ) → List Warning → Type 0) (held now : List ℕ → Held)
     (first before after : List ℕ → ℕ) (same : Same held now) (early : Rising first before) (text_before text_after : Option (List ℕ))
     (sink_before sink_after : ℕ) where
-  run_wider : (strict : Bool) (checks : List Check) (status : ℕ) →
-      IsRun Answers (met (seen now before after) text_before text_after sink_before sink_after) strict checks status →
-      IsRun Answers (met (seen held first after) text_before text_after sink_before sink_after) strict checks status
-  run_wider strict checks status (whole xs are each written is) =
+  run_wider : (strict json : Bool) (checks : List Check) (status : ℕ) →
+      IsRun Answers (met (seen now before after) text_before text_after sink_before sink_after) strict json checks status →
+      IsRun Answers (met (seen held first after) text_before text_after sink_before sink_after) strict json checks status
+  run_wider strict json checks status (whole xs are each written is) =
       whole xs are (answers_wider held now first before after after same early (λ n. omega arith) Answers xs each) written is
-  run_wider strict checks status (cut xs rest n are each proper written risen is) =
+  run_wider strict json checks status (cut xs rest n are each proper written risen is) =
       cut xs rest n are (answers_wider held now first before after after same early (λ n. omega arith) Answers xs each) proper written risen is
-  run_wider strict checks status (no_memory xs rest are each written is) =
+  run_wider strict json checks status (no_memory xs rest are each written is) =
       no_memory xs rest are (answers_wider held now first before after after same early (λ n. omega arith) Answers xs each) written is
 
   pub chosen_wider : (r : Run) (checks : List Check) (status : ℕ) →
       IsChosenEnd Answers (met (seen now before after) text_before text_after sink_before sink_after) r checks status →
       IsChosenEnd Answers (met (seen held first after) text_before text_after sink_before sink_after) r checks status
   chosen_wider r checks status (listed is end) = listed is end
-  chosen_wider r checks status (ran is end) = ran is (run_wider r.strict _ status end)
+  chosen_wider r checks status (ran is end) = ran is (run_wider r.strict r.json _ status end)
   chosen_wider r checks status (not_begun same_text is) = not_begun same_text is

@@ -5,6 +5,7 @@ use Rattle.suite_file.specs.Suites.{Check}
 use Rattle.suite_run.specs.Answers.{Came, IsUnread, read_failed, too_large, AfterFile, unread, was_read, IsAnswer, came, elf_limit, notes_limit}
 use Rattle.suite_run.specs.Runs.{Answered, AreAnswers}
 use Rattle.suite_run.specs.Steps.{told}
+use Rattle.note_check.specs.declared.warning.Warning.{Warning}
 
 -- a count that has risen amid others has risen
 pub rose_wider : (b c d e : ℕ) → b ≤ c → d ≤ e → Rose c d → Rose b e
@@ -31,18 +32,18 @@ module _ (held now : List ℕ → Held) (first before after last : List ℕ → 
     file_wider name limit large Next Other a step (was_read bytes agrees within next) =
         was_read bytes (subst (λ h. Agrees h bytes) (same name) agrees) within (step bytes next)
 
-    pub answer_wider : (Answers : List (List ℕ) → (file notes : List ℕ) → (status : ℕ) → (report : List ℕ) → Type 0) (c : Check) (a : Came) →
+    pub answer_wider : (Answers : List (List ℕ) → (file notes : List ℕ) → (status : ℕ) → (report : List ℕ) → List Warning → Type 0) (c : Check) (a : Came) →
         IsAnswer Answers now before after c a → IsAnswer Answers held first last c a
     answer_wider Answers c a =
         file_wider c.elf elf_limit _ _ _ a (λ file. file_wider c.notes notes_limit _ _ _ a (λ notes is. is))
 
-    pub answers_wider : (Answers : List (List ℕ) → (file notes : List ℕ) → (status : ℕ) → (report : List ℕ) → Type 0) (xs : List Answered) →
+    pub answers_wider : (Answers : List (List ℕ) → (file notes : List ℕ) → (status : ℕ) → (report : List ℕ) → List Warning → Type 0) (xs : List Answered) →
         AreAnswers Answers now before after xs → AreAnswers Answers held first last xs
     answers_wider Answers [] are = tt
     answers_wider Answers (x ∷ xs) are = (answer_wider Answers x.check x.came are.0, answers_wider Answers xs are.1)
 
 -- one answer more
-pub answers_last : (Answers : List (List ℕ) → (file notes : List ℕ) → (status : ℕ) → (report : List ℕ) → Type 0) (held : List ℕ → Held)
+pub answers_last : (Answers : List (List ℕ) → (file notes : List ℕ) → (status : ℕ) → (report : List ℕ) → List Warning → Type 0) (held : List ℕ → Held)
     (before after : List ℕ → ℕ) (xs : List Answered) (x : Answered) → AreAnswers Answers held before after xs →
     IsAnswer Answers held before after x.check x.came → AreAnswers Answers held before after (xs ++ x ∷ [])
 answers_last Answers held before after [] x are is = (is, tt)

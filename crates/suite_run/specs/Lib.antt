@@ -3,6 +3,7 @@ pub mod Chosen
 pub mod Ends
 pub mod LoadViews
 pub mod Loads
+pub mod Prints
 pub mod Requests
 pub mod Runs
 pub mod Steps

@@ -9,7 +9,7 @@ use Rattle.suite_run.specs.declared.reading.FileStep.TheVariants.{Go, Unread}
 use Rattle.suite_run.specs.declared.reading.Limit.{Limit}
 
 abbrev pub came_of : Came → spec.Came
-came_of a = came a.status a.report.items
+came_of a = record { status = a.status; report = a.report.items; warnings = a.warnings.items }
 
 -- the bytes of a file, or what a check comes to without them
 abbrev pub IsFileStep : (held : List ℕ → Held) → (before after : List ℕ → ℕ) → (name : List ℕ) → Limit → FileStep → Type 0

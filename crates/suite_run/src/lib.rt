@@ -6,6 +6,7 @@ mod came;
 mod choosing;
 mod ended;
 mod loading;
+mod printing;
 mod reading;
 mod request;
 mod running;
@@ -14,5 +15,6 @@ mod suite;
 
 pub use came::{Came, Verifier};
 pub use ended::Ended;
+pub use printing::print_answer;
 pub use request::Run;
 pub use suite::run_suite;

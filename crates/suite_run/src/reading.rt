@@ -34,6 +34,7 @@ fn unread(alloc: Global, name: &str) -> Result<Came, AllocError>
     Ok(Came {
         status: READ_FAULT,
         report,
+        warnings: Vec::new(alloc),
     })
 }
 
@@ -55,6 +56,7 @@ pub(crate) fn read_file<H: Shelf>(
             Ok(FileStep::Unread(Came {
                 status: limit.status,
                 report,
+                warnings: Vec::new(alloc),
             }))
         }
         Err(ReadFault::Failed) => {

@@ -2,7 +2,8 @@
 ghost use Rattle.std.specs.Prelude.{◌≡◌, ◌≤◌, ℕ, List, map};
 ghost use Rattle.io_edges.specs.Met.{met, seen};
 ghost use Rattle.suite_file.specs.Views.{check_view};
-ghost use Rattle.suite_run.specs.Ends.{IsChosenEnd, IsPrinted, IsSuiteEnd};
+ghost use Rattle.suite_run.specs.Ends.{IsChosenEnd, IsSuiteEnd};
+ghost use Rattle.suite_run.specs.Prints.{IsPrinted};
 ghost use Rattle.suite_run.specs.Requests.{run_of};
 ghost use Rattle.suite_run.specs.Chosen.{list_text};
 
@@ -10,24 +11,22 @@ use crate::came::Verifier;
 use crate::choosing::{chosen, list_text};
 use crate::ended::Ended;
 use crate::loading::{Loaded, load};
+use crate::printing::print_text;
 use crate::request::Run;
 use crate::running::run_checks;
-use exit_status::{DONE, NO_MEMORY, WRITE_FAULT};
-use io_edges::{Shelf, Sink, write_all};
+use exit_status::{DONE, NO_MEMORY};
+use io_edges::{Shelf, Sink};
 use std::alloc::Global;
 use suite_file::Check;
 
 /// Prints the names of checks, and gives the status.
 fn list_checks<K: Sink>(alloc: Global, checks: &[&Check], out: &mut K) -> u8
-    ensures { IsPrinted (list_text (map (λ c. check_view c.now) checks.now)) (K.written out.old) (K.written out.new) (K.faults out.old) (K.faults out.new) result }
+    ensures { IsPrinted (list_text (map (λ c. check_view c.now) checks.now)) 0 (K.written out.old) (K.written out.new) (K.faults out.old) (K.faults out.new) result }
 {
     let Ok(text) = list_text(alloc, checks) else {
         return NO_MEMORY;
     };
-    match write_all(out, &text) {
-        Ok(()) => DONE,
-        Err(_) => WRITE_FAULT,
-    }
+    print_text(&text, DONE, out)
 }
 
 /// Runs or lists the chosen checks of a suite, and gives the status.
@@ -49,7 +48,7 @@ fn run_chosen<V: Verifier, H: Shelf, K: Sink>(
     if run.list {
         return list_checks(alloc, &chosen, out);
     }
-    run_checks(alloc, verifier, &chosen, run.strict, shelf, out)
+    run_checks(alloc, verifier, &chosen, run, shelf, out)
 }
 
 /// Runs a suite: its checks that are asked for, each answered in its turn.

@@ -1,26 +1,34 @@
 //! The program: the answer to the words of its command line.
-ghost use Rattle.std.specs.Prelude.{◌≡◌, IfOk, OnErr, map, string_bytes};
+ghost use Rattle.std.specs.Prelude.{◌≡◌, Some, IfOk, OnErr, map, string_bytes};
 ghost use Rattle.io_edges.specs.Met.{met, seen};
 ghost use Rattle.suite_line.specs.Requests.{lawful_request};
-ghost use Rattle.suite_top.specs.Ends.{IsEnd};
+ghost use Rattle.suite_line.specs.Views.{request_of};
+ghost use Rattle.suite_top.specs.Ends.{IsDone, IsEnd};
 
+use crate::files::answer_files;
+use crate::refusing::{out_of_memory, refuse_line};
+use crate::single::{Checker, Expander};
 use crate::verify::Bilv;
 use command_line::LineError;
-use exit_status::{NO_MEMORY, USAGE};
 use io_edges::{Shelf, Sink};
 use std::alloc::{AllocError, Global};
-use suite_line::read_request;
+use suite_line::{Request, read_request};
 use suite_run::{Ended, run_suite};
 
-const USAGE_TEXT: &str = "usage: bilv_suite run SUITE [--only TEXT] [--strict] [--list]\n";
-
-/// The end where the line is not lawful.
-fn refuse_line(alloc: Global) -> Ended
-    ensures { result.status ≡ 2 }
+/// Answers a request.
+fn answer_request<H: Shelf, K: Sink>(
+    alloc: Global,
+    request: Request,
+    shelf: &mut H,
+    out: &mut K,
+) -> Ended
+    ensures { IsDone (met (seen (H.holds shelf.old) (H.faults shelf.old) (H.faults shelf.new)) (K.written out.old)
+        (K.written out.new) (K.faults out.old) (K.faults out.new)) (Some (request_of request.entry)) result.status }
 {
-    Ended {
-        status: USAGE,
-        message: String::from_str(alloc, USAGE_TEXT).ok(),
+    match request {
+        Request::Run(run) => run_suite(alloc, &Bilv, run, shelf, out),
+        Request::Notes(files) => answer_files(alloc, &Expander, files, shelf, out),
+        Request::Check(files) => answer_files(alloc, &Checker, files, shelf, out),
     }
 }
 
@@ -35,12 +43,9 @@ fn answer_line<H: Shelf, K: Sink>(
         (K.written out.new) (K.faults out.old) (K.faults out.new)) (lawful_request (map string_bytes words.now)) result.status }
 {
     match read_request(alloc, words) {
-        Ok(run) => run_suite(alloc, &Bilv, run, shelf, out),
+        Ok(request) => answer_request(alloc, request, shelf, out),
         Err(LineError::Usage) => refuse_line(alloc),
-        Err(LineError::Memory) => Ended {
-            status: NO_MEMORY,
-            message: None,
-        },
+        Err(LineError::Memory) => out_of_memory(),
     }
 }
 
@@ -57,10 +62,7 @@ pub fn answer_words<H: Shelf, K: Sink>(
     ensures no_words { OnErr words ((result.status ≡ 8) × (K.written out.new ≡ K.written out.old)) }
 {
     let Ok(words) = words else {
-        return Ended {
-            status: NO_MEMORY,
-            message: None,
-        };
+        return out_of_memory();
     };
     answer_line(alloc, &words, shelf, out)
 }

@@ -1,12 +1,15 @@
 //! `bilv verify`, over files in memory.
 ghost use Rattle.std.specs.Prelude.{◌≡◌, ℕ, List, IfOk, map, string_bytes};
 ghost use Rattle.io_edges.specs.Shelves.{kept_in};
-ghost use Rattle.suite_top.specs.Verified.{IsTold, two_files};
+ghost use Rattle.suite_top.specs.Verified.{IsTold, IsVerified, two_files};
 
+use crate::asked::checked_by;
 use bilv_top::bilv;
-use exit_status::NO_MEMORY;
+use exit_status::{NO_MEMORY, NOTES_REFUSED};
 use io_edges::{MemFile, MemSink, NeverFailShelf};
+use note_check::Warning;
 use std::alloc::{AllocError, Global};
+use suite_notes::{Expansion, notes_of};
 use suite_report::verify_words;
 use suite_run::{Came, Verifier};
 
@@ -35,9 +38,15 @@ fn shelf_of(alloc: Global, elf: Vec<u8>, notes: Vec<u8>) -> Result<NeverFailShel
     Ok(shelf)
 }
 
-/// What `bilv` answers to words over a shelf. The error is out of memory, also for a report that is longer than the most.
-fn told(alloc: Global, words: &[String], shelf: &mut NeverFailShelf) -> Result<Came, AllocError>
-    ensures { IfOk result (λ a. IsTold (kept_in shelf.old) (map string_bytes words.now) a.status a.report.items) }
+/// What `bilv` answers to words over a shelf, beside these warnings. The error is out of memory, also for a report that is longer than the most.
+fn told(
+    alloc: Global,
+    words: &[String],
+    shelf: &mut NeverFailShelf,
+    warnings: Vec<Warning>,
+) -> Result<Came, AllocError>
+    ensures told { IfOk result (λ a. IsTold (kept_in shelf.old) (map string_bytes words.now) a.status a.report.items) }
+    ensures warned { IfOk result (λ a. a.warnings.items ≡ warnings.items) }
 {
     let mut out = MemSink::new(alloc, ROOM, ROOM, Vec::new(alloc))?;
     let outcome = bilv(alloc, words, shelf, &mut out);
@@ -49,17 +58,37 @@ fn told(alloc: Global, words: &[String], shelf: &mut NeverFailShelf) -> Result<C
         return Err(AllocError);
     }
     let report = out.text().to_vec(alloc)?;
-    Ok(Came { status, report })
+    Ok(Came {
+        status,
+        report,
+        warnings,
+    })
 }
 
-/// `bilv verify`, which is asked by a command line over files in memory.
+/// What `bilv verify` answers to notes over an ELF file, by the words of options, with the warnings about them. The error is out of memory.
+fn verify_notes(
+    alloc: Global,
+    options: &[String],
+    file: Vec<u8>,
+    notes: Vec<u8>,
+) -> Result<Came, AllocError>
+    ensures { IfOk result (λ a. IsVerified (map string_bytes options.now) file.items notes.items a.status a.report.items a.warnings.items) }
+{
+    let words = verify_words(alloc, options)?;
+    let checked = checked_by(alloc, &words, &file, &notes)?;
+    let mut shelf = shelf_of(alloc, file, notes)?;
+    let came = told(alloc, &words, &mut shelf, checked.warnings)?;
+    Ok(came)
+}
+
+/// `bilv verify`, which is asked by a command line over files in memory: an ELF file, and the notes that a template stands for.
 #[derive(Clone, Copy)]
 pub struct Bilv;
 
 impl Verifier for Bilv {
-    ghost use Rattle.suite_top.specs.Verified.{IsVerified};
+    ghost use Rattle.suite_top.specs.Verified.{IsAsked};
 
-    ghost is_answer = { λ _. IsVerified };
+    ghost is_answer = { λ _. IsAsked };
 
     fn verify(
         &self,
@@ -68,9 +97,16 @@ impl Verifier for Bilv {
         file: Vec<u8>,
         notes: Vec<u8>,
     ) -> Result<Came, AllocError> {
-        let words = verify_words(alloc, options)?;
-        let mut shelf = shelf_of(alloc, file, notes)?;
-        let came = told(alloc, &words, &mut shelf)?;
-        Ok(came)
+        match notes_of(alloc, &file, notes)? {
+            Expansion::Notes(notes) => {
+                let came = verify_notes(alloc, options, file, notes)?;
+                Ok(came)
+            }
+            Expansion::Refused(report) => Ok(Came {
+                status: NOTES_REFUSED,
+                report,
+                warnings: Vec::new(alloc),
+            }),
+        }
     }
 }

@@ -1,22 +1,17 @@
 //! What templates stand for.
 use crate::files::{ARM, RISC_V};
-use note_template::{TemplateMachine, expand};
 use std::alloc::Global;
 use std::test::Fail;
-use symbol_table::read_symbols;
+use suite_notes::{Expansion, notes_of};
 
 /// The notes of a template, or the text of its refusal.
-fn answer(
-    alloc: Global,
-    file: &str,
-    machine: TemplateMachine,
-    template: &str,
-) -> Result<String, Fail> {
+fn answer(alloc: Global, file: &str, template: &str) -> Result<String, Fail> {
     let bytes = hex::decode(alloc, file)?;
-    let symbols = read_symbols(alloc, &bytes)?;
-    match expand(alloc, machine, &symbols, template.as_bytes()) {
-        Ok(notes) => Ok(String::from_utf8_lossy(alloc, &notes)?),
-        Err(fault) => Ok(fault.to_string(alloc)?),
+    let template = template.as_bytes().to_vec(alloc)?;
+    match notes_of(alloc, &bytes, template)? {
+        Expansion::Notes(text) | Expansion::Refused(text) => {
+            Ok(String::from_utf8_lossy(alloc, &text)?)
+        }
     }
 }
 
@@ -54,28 +49,37 @@ const RISC_V_TEMPLATES: [(&str, &str); 25] = [
     ),
     (
         "loaded\nrequire a0 = @rx_bufer",
-        "line 2 column 14: no such symbol, the nearest is rx_buffer",
+        "notes: line 2 column 14: no such symbol, the nearest is rx_buffer\n",
     ),
-    ("require a0 = @zero", "line 1 column 14: no such symbol"),
+    (
+        "require a0 = @zero",
+        "notes: line 1 column 14: no such symbol\n",
+    ),
     (
         "require @.L1 = @zero",
-        "line 1 column 9: symbols of this name differ",
+        "notes: line 1 column 9: symbols of this name differ\n",
     ),
-    ("require a0@parse", "line 1 column 11: not in form"),
+    ("require a0@parse", "notes: line 1 column 11: not in form\n"),
     (
         "require a0 = @size(parse)4",
-        "line 1 column 14: not in form",
+        "notes: line 1 column 14: not in form\n",
     ),
     (
         "require a0 = @size parse",
-        "line 1 column 14: no such symbol",
+        "notes: line 1 column 14: no such symbol\n",
     ),
-    ("assert @parse+4294967296 1", "line 1 column 8: not in form"),
-    (" stack 4096", "line 1 column 2: not in form"),
-    ("only t6 4", "line 1 column 1: not in form"),
-    ("only a0) = 0 or (a0 4", "line 1 column 1: not in form"),
-    ("global 4", "line 1 column 1: not in form"),
-    ("abi @parse, 4", "line 1 column 1: not in form"),
+    (
+        "assert @parse+4294967296 1",
+        "notes: line 1 column 8: not in form\n",
+    ),
+    (" stack 4096", "notes: line 1 column 2: not in form\n"),
+    ("only t6 4", "notes: line 1 column 1: not in form\n"),
+    (
+        "only a0) = 0 or (a0 4",
+        "notes: line 1 column 1: not in form\n",
+    ),
+    ("global 4", "notes: line 1 column 1: not in form\n"),
+    ("abi @parse, 4", "notes: line 1 column 1: not in form\n"),
 ];
 
 const ARM_TEMPLATES: [(&str, &str); 7] = [
@@ -96,17 +100,14 @@ const ARM_TEMPLATES: [(&str, &str); 7] = [
         "ensure old(r12 - (r0) <u 0x00000040) or mem8[old(r12)] = old(mem8[r12])",
     ),
     ("require r0 = @thumb", "require r0 = 0x00008001"),
-    ("global", "line 1 column 1: not in form"),
-    ("only ip 4", "line 1 column 1: not in form"),
+    ("global", "notes: line 1 column 1: not in form\n"),
+    ("only ip 4", "notes: line 1 column 1: not in form\n"),
 ];
 
 #[test]
 fn templates_of_risc_v(rt: HostRuntime) -> Result<(), Fail> {
     for (template, wanted) in RISC_V_TEMPLATES {
-        assert_eq!(rt;
-            answer(rt.alloc(), RISC_V, TemplateMachine::RiscV, template)?.as_str(),
-            wanted
-        );
+        assert_eq!(rt; answer(rt.alloc(), RISC_V, template)?.as_str(), wanted);
     }
     Ok(())
 }
@@ -114,10 +115,7 @@ fn templates_of_risc_v(rt: HostRuntime) -> Result<(), Fail> {
 #[test]
 fn templates_of_arm(rt: HostRuntime) -> Result<(), Fail> {
     for (template, wanted) in ARM_TEMPLATES {
-        assert_eq!(rt;
-            answer(rt.alloc(), ARM, TemplateMachine::Arm, template)?.as_str(),
-            wanted
-        );
+        assert_eq!(rt; answer(rt.alloc(), ARM, template)?.as_str(), wanted);
     }
     Ok(())
 }
@@ -134,10 +132,13 @@ fn line_of(alloc: Global, more: usize) -> Result<String, Fail> {
 #[test]
 fn lines_are_counted_as_notes(rt: HostRuntime) -> Result<(), Fail> {
     let full = line_of(rt.alloc(), 1013)?;
-    let notes = answer(rt.alloc(), RISC_V, TemplateMachine::RiscV, &full)?;
+    let notes = answer(rt.alloc(), RISC_V, &full)?;
     assert_eq!(rt; notes.len(), 1024);
     let longer = line_of(rt.alloc(), 1014)?;
-    let refused = answer(rt.alloc(), RISC_V, TemplateMachine::RiscV, &longer)?;
-    assert_eq!(rt; refused.as_str(), "line 1 column 1: longer than 1024 bytes");
+    let refused = answer(rt.alloc(), RISC_V, &longer)?;
+    assert_eq!(rt;
+        refused.as_str(),
+        "notes: line 1 column 1: longer than 1024 bytes\n"
+    );
     Ok(())
 }

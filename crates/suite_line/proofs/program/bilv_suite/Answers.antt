@@ -16,4 +16,6 @@ returns c =
       app = ap app_of_fields c.subcommand_required-bare.ensures ∙ ap (λ (a : App). record a { top = record a.top { subcommand_required = true } }) c.new.ensures.app;
       globals = ap (λ f. f.has_globals) c.subcommand_required-bare.ensures ∙ c.new.ensures.local;
     } in
-    made_sub bare c.in_ok-run.ensures c.in_ok-command.ensures
+    let first = made_sub bare c.in_ok-run.ensures c.in_ok-subcommand.ensures in
+    let second = made_sub first c.in_ok-notes.ensures c.in_ok-subcommand-2.ensures in
+    made_sub second c.in_ok-check.ensures c.in_ok-command.ensures

@@ -10,4 +10,5 @@ returns c =
     let first = made_arg bare c.in_ok-arg.ensures c.file.ensures.rule c.file.ensures.local in
     let second = made_arg first c.in_ok-arg-2.ensures c.named.ensures.rule c.named.ensures.local in
     let third = made_arg second c.in_ok-arg-3.ensures c.flag.ensures.rule c.flag.ensures.local in
-    made_arg third c.in_ok-command.ensures c.flag-2.ensures.rule c.flag-2.ensures.local
+    let fourth = made_arg third c.in_ok-arg-4.ensures c.flag-2.ensures.rule c.flag-2.ensures.local in
+    made_arg fourth c.in_ok-command.ensures c.flag-3.ensures.rule c.flag-3.ensures.local

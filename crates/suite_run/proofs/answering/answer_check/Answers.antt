@@ -35,4 +35,4 @@ returns-clause-answer g c =
     let told = subst (λ n. Agrees (now n) notes × (length notes ≤ 262144)) c.as_str-2.ensures.value (rw c.in-Go-2.is at c.in_ok-notes.ensures.read) in
     verified answers held now (g.H.Shelf.faults c.args.shelf.now) mid last c.read_file.ensures.keeps c.read_file.ensures.never_falls
     (check_view c.args.check.now) a file read.0 read.1 notes told.0 told.1
-    (subst (λ os. answers (map string_bytes os) file notes a.status a.report) c.deref.ensures.value c.in_ok-came.ensures)
+    (subst (λ os. answers (map string_bytes os) file notes a.status a.report a.warnings) c.deref.ensures.value c.in_ok-came.ensures)

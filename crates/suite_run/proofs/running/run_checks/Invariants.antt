@@ -9,6 +9,6 @@ invariant-loop-check g l = record {
   never_falls : (n : List ℕ) → g.H.Shelf.faults l.fn.shelf n ≤ g.H.Shelf.faults l.shelf n;
   sink_never_falls : g.K.Sink.faults l.fn.out ≤ g.K.Sink.faults l.out;
   few : l.expected ≤ l.check-index;
-  far : SoFar (g.V.Verifier.is_answer l.verifier) (g.H.Shelf.holds l.fn.shelf) (g.H.Shelf.faults l.fn.shelf) (g.H.Shelf.faults l.shelf) l.strict
+  far : SoFar (g.V.Verifier.is_answer l.verifier) (g.H.Shelf.holds l.fn.shelf) (g.H.Shelf.faults l.fn.shelf) (g.H.Shelf.faults l.shelf) l.run.strict l.run.json
       (map (λ c. check_view c.now) (take l.check-index l.checks)) (g.K.Sink.written l.fn.out) (g.K.Sink.written l.out) l.status l.expected;
 }

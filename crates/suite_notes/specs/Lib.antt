@@ -1,0 +1,3 @@
+pub mod Expansions
+pub mod Refusals
+pub mod Views
