@@ -1,5 +1,5 @@
 //! The answers about one ELF file and one template.
-ghost use Rattle.std.specs.Prelude.{◌≡◌, IfOk, OnOk, map, string_bytes};
+ghost use Rattle.std.specs.Prelude.{◌≡◌, IfOk, map, string_bytes};
 ghost use Rattle.io_edges.specs.Met.{met, seen};
 ghost use Rattle.suite_file.specs.Views.{check_view};
 ghost use Rattle.suite_line.specs.Views.{files_of};
