@@ -1,3 +1,4 @@
 pub mod Symbols
+pub mod Labels
 pub mod Views
 pub mod Founds

@@ -4,10 +4,12 @@
 #![tactic(auto)]
 
 mod fields;
+mod labels;
 mod names;
 mod reading;
 mod symbol;
 mod table;
 
+pub use labels::Label;
 pub use reading::read_symbols;
 pub use table::{Found, SymbolTable};

@@ -22,7 +22,7 @@ pub(crate) fn name_of<'a>(text: &'a [u8]) -> &'a [u8]
 }
 
 /// The byte at a place, 0 behind the end.
-fn byte_at(text: &[u8], i: usize) -> u8
+pub(crate) fn byte_at(text: &[u8], i: usize) -> u8
     ensures { result ≡ slice_index text.now i }
 {
     match text.get(i) {

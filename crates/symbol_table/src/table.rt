@@ -3,8 +3,10 @@ ghost use Rattle.std.specs.Prelude.{◌≡◌, ◌==◌, find};
 ghost use Rattle.std.specs.Option.{option_map};
 ghost use Rattle.symbol_table.specs.Symbols.{agree, lookup, most_shared, nearest, shared};
 ghost use Rattle.symbol_table.specs.Views.{symbol_of, table_of};
-ghost use Rattle.symbol_table.specs.Founds.{found_of};
+ghost use Rattle.symbol_table.specs.Founds.{found_of, label_of};
+ghost use Rattle.symbol_table.specs.Labels.{label_at};
 
+use crate::labels::{Label, nearest_below};
 use crate::names::{is_named, name_of, shared};
 use crate::symbol::Symbol;
 use std::marker::Model;
@@ -110,5 +112,19 @@ impl<'a> SymbolTable<'a> {
         ensures { found_of result ≡ lookup name.now self.now }
     {
         look_up(&self.symbols, name)
+    }
+
+    /// The symbol by which an address is told: of those with the greatest value that is not above the address the first, among symbols whose names have a byte
+    /// and do not begin with a dollar sign or a dot, as those of mapping symbols and of labels within a function do. It takes time by the number of symbols.
+    pub fn label_at(&self, address: u32) -> Option<Label<'a>>
+        ensures { option_map label_of result ≡ option_map (λ s. (s.name, s.value)) (label_at address self.now) }
+    {
+        match nearest_below(&self.symbols, address) {
+            None => None,
+            Some(symbol) => Some(Label {
+                name: name_of(symbol.text),
+                value: symbol.value,
+            }),
+        }
     }
 }

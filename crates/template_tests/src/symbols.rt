@@ -45,3 +45,36 @@ fn names_find_symbols(rt: HostRuntime) -> Result<(), Fail> {
     }
     Ok(())
 }
+
+/// The symbol by which an address of a file is told, and how far the address is behind it, in words.
+fn label(alloc: Global, file: &str, address: u32) -> Result<String, Fail> {
+    let bytes = hex::decode(alloc, file)?;
+    let symbols = read_symbols(alloc, &bytes)?;
+    let text = match symbols.label_at(address) {
+        None => format!(in alloc; "none")?,
+        Some(label) => {
+            let name = String::from_utf8_lossy(alloc, label.name)?;
+            let distance = address.wrapping_sub(label.value);
+            format!(in alloc; "{name} {distance}")?
+        }
+    };
+    Ok(text)
+}
+
+const RISC_V_LABELS: [(u32, &str); 6] = [
+    (0x1_000f, "none"),
+    (0x1_0010, "parse 0"),
+    // behind two labels `.L1`
+    (0x1_0034, "parse 36"),
+    (0x1_0040, "twin 0"),
+    (0x1_0044, "twin 4"),
+    (0xffff_ffff, "rx_buffer 4294836223"),
+];
+
+#[test]
+fn addresses_are_told_by_symbols(rt: HostRuntime) -> Result<(), Fail> {
+    for (address, wanted) in RISC_V_LABELS {
+        assert_eq!(rt; label(rt.alloc(), RISC_V, address)?.as_str(), wanted);
+    }
+    Ok(())
+}
