@@ -1,0 +1,4 @@
+pub mod Names
+pub mod NoteTexts
+pub mod ValueLines
+pub mod StepLines
