@@ -4,12 +4,12 @@ use Rattle.std.specs.Prelude.{◌==◌, ◌&&◌, nat_lt, codes, if◌then◌els
 use Rattle.std.proofs.lemmas.Bool.Decides.{nat_tests}
 use Rattle.std.proofs.lemmas.List.Elements.{All-push}
 use Rattle.machine_spec.specs.StateText.{Layout}
-use Rattle.model_spec.specs.ModelText.{ModelToken, Memories, StoredIs, Definition, Gives, array_sort}
+use Rattle.model_spec.specs.ModelText.{ModelToken, Sort, Memories, StoredIs, Definition, Gives, array_sort}
 use Rattle.model_spec.specs.Models.{word_of}
 use Rattle.model_text.specs.declared.bits.Bits.{Bits}
 use Rattle.model_text.specs.declared.draft.Draft.{Draft}
 use Rattle.model_text.specs.declared.symbol.Symbol.{Symbol}
-use Rattle.model_text.specs.declared.symbol.Symbol.TheVariants.{Register, Flag, Choice, Memory}
+use Rattle.model_text.specs.declared.symbol.Symbol.TheVariants.{Register, Flag, Choice, Memory, OtherRegister, OtherFlag, OtherMemory}
 use Rattle.model_text.specs.declared.place.Role.TheVariants.{Byte}
 use Rattle.model_text.specs.declared.place.Place.{Place}
 use Rattle.model_text.specs.declared.place.Place.TheVariants as places
@@ -19,7 +19,7 @@ use Rattle.model_text.specs.Faults.{Found}
 use Rattle.model_text.specs.Tokens.{is_close, name_text}
 use Rattle.model_text.specs.Bits.{capped, capped_bits}
 use Rattle.model_text.specs.Stores.{last_byte, AreBytes}
-use Rattle.model_text.specs.Symbols.{sort_of, is_memory, pattern_of, name_at, IsNamed, IsNamedIf}
+use Rattle.model_text.specs.Symbols.{sort_of, is_memory, is_other, pattern_of, name_at, IsNamed, IsNamedIf, IsOtherName}
 use Rattle.model_text.specs.Pieces.{token_eq, matched, left_of, pieces_of}
 use Rattle.model_text.specs.Drafts.{IsDraft, IsStored, IsLearnt, AreFindings}
 use Rattle.model_text.specs.Traces.{Trace, no_value, named, traced, passed_trace, drafted, with_role, is_of_sort}
@@ -43,11 +43,14 @@ pub last_more : (fill : ℕ) (xs : List (ℕ × ℕ)) (i v a : ℕ) → last_byt
 last_more fill [] i v a = refl
 last_more fill (x ∷ xs) i v a = last_more (if a == x.0 then x.1 else fill) xs i v a
 
-is_the_memory : (s : Symbol) → is_memory s ≡ true → s ≡ Memory
-is_the_memory Memory h = refl
-is_the_memory (Register i) h = absurd (cc)
-is_the_memory (Flag i) h = absurd (cc)
-is_the_memory (Choice i) h = absurd (cc)
+memory_sort : (s : Symbol) → is_memory s ≡ true → sort_of s ≡ Memories
+memory_sort Memory h = refl
+memory_sort OtherMemory h = refl
+memory_sort (Register i) h = absurd (cc)
+memory_sort (Flag i) h = absurd (cc)
+memory_sort (Choice i) h = absurd (cc)
+memory_sort OtherRegister h = absurd (cc)
+memory_sort OtherFlag h = absurd (cc)
 
 both : (a b : Bool) → (a && b) ≡ true → (a ≡ true) × (b ≡ true)
 both true b h = (refl, h)
@@ -70,13 +73,14 @@ pub byte_draft : (d e : Draft) (tr : Trace) → IsDraft d tr → d.good ≡ true
     e ≡ record d { good = true; stored = e.stored } → e.stored.fill ≡ d.stored.fill →
     e.stored.stores.items ≡ d.stored.stores.items ++ (d.index.number, d.bits.number) ∷ [] → IsDraft e (with_role Byte tr)
 byte_draft d e tr h good memory index bits same fill stores =
-    let symbol : tr.symbol ≡ Memory = sym h.symbol ∙ is_the_memory d.symbol memory in
+    let of_memory : is_memory tr.symbol ≡ true = ap is_memory (sym h.symbol) ∙ memory in
+    let sort : sort_of tr.symbol ≡ Memories = memory_sort tr.symbol of_memory in
     let i = number_is d.index.number tr.index.number (2 ^ 32) (tr.index.width == 32) index (omega arith) (ap (λ (z : Bits). z.number) h.index) in
     let v = number_is d.bits.number tr.bits.number 256 (tr.bits.width == 8) bits (omega arith) (ap (λ (z : Bits). z.number) h.bits) in
-    let old : is_of_sort Memories tr.value ≡ true = ap (λ (z : Symbol). is_of_sort (sort_of z) tr.value) (sym symbol) ∙ sym h.good ∙ good in
+    let old : is_of_sort Memories tr.value ≡ true = ap (λ (z : Sort). is_of_sort z tr.value) (sym sort) ∙ sym h.good ∙ good in
     let value = StoredIs tr.value tr.index.width tr.index.number tr.bits.width tr.bits.number in
     let new : is_of_sort Memories value ≡ true = rw (old, index, bits) refl in
-    let all : is_of_sort (sort_of tr.symbol) value ≡ true = ap (λ (z : Symbol). is_of_sort (sort_of z) value) symbol ∙ new in
+    let all : is_of_sort (sort_of tr.symbol) value ≡ true = ap (λ (z : Sort). is_of_sort z value) sort ∙ new in
     record {
       symbol = ap (λ (z : Draft). z.symbol) same ∙ h.symbol;
       sort_left = ap (λ (z : Draft). pieces_of z.sort_left) same ∙ h.sort_left;
@@ -84,7 +88,7 @@ byte_draft d e tr h good memory index bits same fill stores =
       bits = ap (λ (z : Draft). z.bits) same ∙ h.bits;
       index = ap (λ (z : Draft). z.index) same ∙ h.index;
       good = ap (λ (z : Draft). z.good) same ∙ sym all;
-      number = λ other g. let x : true ≡ false = sym (ap is_memory symbol) ∙ other in absurd (cc);
+      number = λ other g. let x : true ≡ false = sym of_memory ∙ other in absurd (cc);
       memory = λ m g a.
           ap (λ (z : ℕ). last_byte z e.stored.stores.items a) fill ∙ ap (λ (z : List (ℕ × ℕ)). last_byte d.stored.fill z a) stores
           ∙ last_more d.stored.fill d.stored.stores.items d.index.number d.bits.number a
@@ -93,6 +97,7 @@ byte_draft d e tr h good memory index bits same fill stores =
           ∙ ap (λ (z : ℕ). if a == tr.index.number then tr.bits.number else z) (h.memory m good a);
       ranges = subst AreBytes (sym stores) (All-push (λ (b : ℕ × ℕ). (b.0 < 2 ^ 32) × (b.1 < 256)) d.stored.stores.items (d.index.number, d.bits.number)
           h.ranges (i.1, v.1));
+      name = λ other. ap (λ (z : Draft). z.name.items) same ∙ h.name other;
     }
 
 -- ---- the end of a definition
@@ -103,6 +108,9 @@ none_of_sort (Register i) = refl
 none_of_sort (Flag i) = refl
 none_of_sort (Choice i) = refl
 none_of_sort Memory = refl
+none_of_sort OtherRegister = refl
+none_of_sort OtherFlag = refl
+none_of_sort OtherMemory = refl
 
 -- what is kept behind a whole definition
 abbrev pub closed_trace : Trace → Trace
@@ -122,6 +130,7 @@ closed_draft d e tr h same bytes =
       number = λ m g. absurd (none g);
       memory = λ m g. absurd (none g);
       ranges = bytes;
+      name = λ other. ap (λ (z : Draft). z.name.items) same ∙ h.name other;
     }
 
 module _ (layout : Layout) (count : ℕ) (kept : Option Found) where
@@ -157,6 +166,22 @@ module _ (layout : Layout) (count : ℕ) (kept : Option Found) where
         named = h.named;
       }
 
+  -- the definition of another symbol
+  pub closed_other : (d e : Draft) (f g : Findings) (tr : Trace) (s : Symbol) → IsLearnt layout count kept d f tr → d.symbol ≡ s → is_other s ≡ true →
+      (IsNamed layout count s tr.name → IsOtherName layout count tr.name) → e ≡ record d { good = false; stored = e.stored } → e.stored ≡ d.stored →
+      (IsOtherName layout count d.name.items → AreFindings layout count kept f tr.definitions →
+      AreFindings layout count kept g (tr.definitions ++ Gives d.name.items tr.sort tr.value ∷ [])) → IsLearnt layout count kept e g (closed_trace tr)
+  closed_other d e f g tr s h is other name same stored take =
+      let symbol : tr.symbol ≡ s = sym h.draft.symbol ∙ is in
+      let names : d.name.items ≡ tr.name = h.draft.name (ap is_other symbol ∙ other) in
+      let apart = name (subst (λ (z : Symbol). IsNamed layout count z tr.name) symbol h.named) in record {
+        draft = closed_draft d e tr h.draft same (subst (λ (z : Stored). AreBytes z.stores.items) (sym stored) h.draft.ranges);
+        findings =
+            subst (λ (w : List ℕ). AreFindings layout count kept g (tr.definitions ++ Gives w tr.sort tr.value ∷ [])) names
+            (take (subst (IsOtherName layout count) (sym names) apart) h.findings);
+        named = h.named;
+      }
+
   -- ---- what is learnt from a token
 
   pub learnt_name : (d e : Draft) (f : Findings) (tr : Trace) (p : Place) (o : Option Symbol) (s : Symbol) (t : ModelToken) → p ≡ places.Name → o ≡ Some s →
@@ -179,6 +204,7 @@ module _ (layout : Layout) (count : ℕ) (kept : Option Found) where
       number = h.draft.number;
       memory = h.draft.memory;
       ranges = h.draft.ranges;
+      name = h.draft.name;
     };
     findings = findings_passed layout count kept tr.definitions f h.findings;
     named = h.named;
@@ -249,6 +275,7 @@ sort_draft d e tr t h same left = record {
   number = λ m g. ap (λ (z : Draft). z.number) same ∙ h.number m (sym (ap (λ (z : Draft). z.good) same) ∙ g);
   memory = λ m g a. ap (λ (z : Draft). last_byte z.stored.fill z.stored.stores.items a) same ∙ h.memory m (sym (ap (λ (z : Draft). z.good) same) ∙ g) a;
   ranges = subst (λ (z : Draft). AreBytes z.stored.stores.items) (sym same) h.ranges;
+  name = λ other. ap (λ (z : Draft). z.name.items) same ∙ h.name other;
 }
 
 pub constant_draft : (d e : Draft) (tr : Trace) (t : ModelToken) → IsDraft d tr → e ≡ record d { constant_left = e.constant_left } →
@@ -263,6 +290,7 @@ constant_draft d e tr t h same left = record {
   number = λ m g. ap (λ (z : Draft). z.number) same ∙ h.number m (sym (ap (λ (z : Draft). z.good) same) ∙ g);
   memory = λ m g a. ap (λ (z : Draft). last_byte z.stored.fill z.stored.stores.items a) same ∙ h.memory m (sym (ap (λ (z : Draft). z.good) same) ∙ g) a;
   ranges = subst (λ (z : Draft). AreBytes z.stored.stores.items) (sym same) h.ranges;
+  name = λ other. ap (λ (z : Draft). z.name.items) same ∙ h.name other;
 }
 
 pub bits_draft : (d e : Draft) (tr : Trace) (b : Bits) → IsDraft d tr → e ≡ record d { bits = e.bits } → e.bits ≡ capped_bits b →
@@ -277,4 +305,5 @@ bits_draft d e tr b h same bits = record {
   number = λ m g. ap (λ (z : Draft). z.number) same ∙ h.number m (sym (ap (λ (z : Draft). z.good) same) ∙ g);
   memory = λ m g a. ap (λ (z : Draft). last_byte z.stored.fill z.stored.stores.items a) same ∙ h.memory m (sym (ap (λ (z : Draft). z.good) same) ∙ g) a;
   ranges = subst (λ (z : Draft). AreBytes z.stored.stores.items) (sym same) h.ranges;
+  name = λ other. ap (λ (z : Draft). z.name.items) same ∙ h.name other;
 }

@@ -9,6 +9,7 @@ use Rattle.machine_spec.specs.StateText.{Layout, value_names}
 use Rattle.bilv_spec.specs.Scripts.{choice_name}
 use Rattle.model_spec.specs.ModelText.{Value, WordIs, ConstantIs, StoredIs, Definition, Sort, Words}
 use Rattle.model_spec.specs.Models.{given, word_of}
+use Rattle.model_text.specs.declared.symbol.Others.{Others}
 use Rattle.model_text.specs.declared.symbol.Symbol.{Symbol}
 use Rattle.model_text.specs.declared.symbol.Symbol.TheVariants.{Flag, Choice}
 use Rattle.model_text.specs.declared.model.Model.{Model}
@@ -44,8 +45,8 @@ some_symbol a b e = cc
 below_itself : (m n : ℕ) → m < n → m % n ≡ m
 below_itself m n h = mod-eq_of_lt h
 
-module _ (layout : Layout) (drawn : List Bool) (own : HasOwnNames layout) (few : length drawn < 2 ^ 64) (ds : List Definition) (f : Findings)
-    (found : AreFindings layout (count_of layout drawn) None f ds) (sorted : AreSorted (symbol_in layout drawn) ds) where
+module _ (layout : Layout) (drawn : List Bool) (o : Others) (own : HasOwnNames layout) (few : length drawn < 2 ^ 64) (short : length o.given.items < 2 ^ 64) (ds : List Definition) (f : Findings)
+    (found : AreFindings layout (count_of layout drawn) None f ds) (sorted : AreSorted (symbol_in layout drawn o) ds) where
   abbrev words : List (Option ℕ)
   words = f.words.items
 
@@ -77,13 +78,13 @@ module _ (layout : Layout) (drawn : List Bool) (own : HasOwnNames layout) (few :
       ap (λ (b : Bool). if b then slice_index_or (value_names layout) (size + n) [] else choice_name (size + n - size)) e ∙ ap choice_name back
 
   -- their sorts
-  flag_sort : (i : ℕ) → i < length layout.flags → (s : Symbol) → symbol_in layout drawn (slice_index_or layout.flags i []) ≡ Some s → sort_of s ≡ Words 1
+  flag_sort : (i : ℕ) → i < length layout.flags → (s : Symbol) → symbol_in layout drawn o (slice_index_or layout.flags i []) ≡ Some s → sort_of s ≡ Words 1
   flag_sort i l s e =
-      let same : Flag (length layout.registers + i) ≡ s = some_symbol (Flag (length layout.registers + i)) s (sym (flag_symbol layout drawn own few i l) ∙ e) in
+      let same : Flag (length layout.registers + i) ≡ s = some_symbol (Flag (length layout.registers + i)) s (sym (flag_symbol layout drawn o own few short i l) ∙ e) in
       ap sort_of (sym same)
 
-  choice_sort : (n : ℕ) → n < length drawn → (s : Symbol) → symbol_in layout drawn (choice_name n) ≡ Some s → sort_of s ≡ Words 2
-  choice_sort n l s e = by (slice_get drawn n) (sym (choice_symbol_is layout drawn own few n (omega (arith, l, few))) ∙ e)
+  choice_sort : (n : ℕ) → n < length drawn → (s : Symbol) → symbol_in layout drawn o (choice_name n) ≡ Some s → sort_of s ≡ Words 2
+  choice_sort n l s e = by (slice_get drawn n) (sym (choice_symbol_is layout drawn o own few short n (omega (arith, l, few))) ∙ e)
     where
       by : (o : Option Bool) → choice_if o (size + n) ≡ Some s → sort_of s ≡ Words 2
       by None g = absurd (cc)
@@ -96,13 +97,13 @@ module _ (layout : Layout) (drawn : List Bool) (own : HasOwnNames layout) (few :
       let here = word_at (length layout.registers + i) (omega (arith, l, parts)) ∙ ap (λ (w : List ℕ). word_of (given ds w)) (flag_name i l) in
       ap (λ (n : ℕ). n % 2) here
       ∙ below_itself (word_of (given ds (slice_index_or layout.flags i []))) 2
-      (given_below (symbol_in layout drawn) ds (slice_index_or layout.flags i []) 1 sorted (flag_sort i l))
+      (given_below (symbol_in layout drawn o) ds (slice_index_or layout.flags i []) 1 sorted (flag_sort i l))
 
   choice_word : (n : ℕ) → n < length drawn → or_zero (slice_index_or words (size + n) None) % 4 ≡ word_of (given ds (choice_name n))
   choice_word n l =
       let here = word_at (size + n) (omega (arith, l)) ∙ ap (λ (w : List ℕ). word_of (given ds w)) (choice_name_at n) in
       ap (λ (m : ℕ). m % 4) here
-      ∙ below_itself (word_of (given ds (choice_name n))) 4 (given_below (symbol_in layout drawn) ds (choice_name n) 2 sorted (choice_sort n l))
+      ∙ below_itself (word_of (given ds (choice_name n))) 4 (given_below (symbol_in layout drawn o) ds (choice_name n) 2 sorted (choice_sort n l))
 
   register_words : length (take (length layout.registers) words) ≡ length layout.registers
   register_words = length-take-le (length layout.registers) words (omega (arith, parts, found.count_is))

@@ -1,6 +1,8 @@
 -- What is kept of values behind one more definition.
 use Rattle.std.proofs.Common.{◌≡◌, ◌≢◌, ℕ, zero, suc, ◌<◌, Bool, true, false, arith, List, [], ◌∷◌, ◌++◌, Option, Some, None, refl, sym, ap, ◌∙◌, subst, length, set, replicate}
-use Rattle.std.specs.Prelude.{◌==◌, if◌then◌else◌, codes, is_some, slice_index_or}
+use Rattle.std.specs.Prelude.{◌==◌, ◌||◌, if◌then◌else◌, codes, is_some, slice_index_or}
+use Rattle.std.specs.Global.{Vec}
+use Rattle.std.specs.List.{list_any}
 use Rattle.std.specs.Str.{bytes_eq}
 use Rattle.std.proofs.lemmas.Bool.{eqb-true}
 use Rattle.std.proofs.lemmas.Bool.Decides.{nat_tests}
@@ -12,7 +14,7 @@ use Rattle.model_spec.specs.Models.{given, word_of}
 use Rattle.model_text.specs.declared.stores.Stored.{Stored}
 use Rattle.model_text.specs.declared.findings.Findings.{Findings}
 use Rattle.model_text.specs.Faults.{Found}
-use Rattle.model_text.specs.Symbols.{name_at}
+use Rattle.model_text.specs.Symbols.{name_at, IsOtherName}
 use Rattle.model_text.specs.Drafts.{IsWordOf, IsStored, IsMemoryOf, AreApart, AreFindings}
 use Rattle.model_text.proofs.SortForms.{same_word}
 
@@ -78,16 +80,18 @@ module _ (layout : Layout) (count : ℕ) (kept : Option Found) (ds : List Defini
   -- a definition that gives nothing new
   findings_as : (f : Findings) (more : List Definition) → AreFindings layout count kept f ds →
       ((i : ℕ) → i < count → given more (name_at layout i) ≡ given ds (name_at layout i)) → given more (codes "mem") ≡ given ds (codes "mem") →
-      AreFindings layout count kept f more
-  findings_as f more h words memory = record {
+      ((w : List ℕ) → IsOtherName layout count w → given more w ≡ given ds w) → AreFindings layout count kept f more
+  findings_as f more h words memory others = record {
     apart = h.apart;
     count_is = h.count_is;
     words = λ i l. subst (λ (z : Option Value). IsWordOf kept (slice_index_or f.words.items i None) z) (sym (words i l)) (h.words i l);
     memory = subst (IsMemoryOf kept f.memory) (sym memory) h.memory;
+    others = λ w o. h.others w o ∙ ap (λ (z : Option Value). is_some z) (sym (others w o));
   }
 
   pub findings_passed : (f : Findings) → AreFindings layout count kept f ds → AreFindings layout count kept f (ds ++ PassedOver ∷ [])
   findings_passed f h = findings_as f (ds ++ PassedOver ∷ []) h (λ i l. given_passed ds (name_at layout i)) (given_passed ds (codes "mem"))
+      (λ w o. given_passed ds w)
 
   other_names : (i j : ℕ) → AreApart layout count → i < count → j < count → i ≢ j → bytes_eq (name_at layout i) (name_at layout j) ≡ false
   other_names i j a k l other = by (bytes_eq (name_at layout i) (name_at layout j)) refl
@@ -103,6 +107,7 @@ module _ (layout : Layout) (count : ℕ) (kept : Option Found) (ds : List Defini
         AreFindings layout count kept f (ds ++ Gives (name_at layout place) sort v ∷ [])
     word_again f place h l some = findings_as f (ds ++ Gives (name_at layout place) sort v ∷ []) h
         (λ i k. by i k (i == place) refl) (given_other ds (name_at layout place) (codes "mem") sort v (h.apart.memory place l))
+        (λ w o. given_other ds (name_at layout place) w sort v (o.0 place l))
       where
         by : (i : ℕ) → i < count → (b : Bool) → (i == place) ≡ b →
             given (ds ++ Gives (name_at layout place) sort v ∷ []) (name_at layout i) ≡ given ds (name_at layout i)
@@ -117,14 +122,17 @@ module _ (layout : Layout) (count : ℕ) (kept : Option Found) (ds : List Defini
     -- and one that is given first
     pub word_new : (f g : Findings) (place number : ℕ) → AreFindings layout count kept f ds → place < count → slice_index_or f.words.items place None ≡ None →
         (kept ≡ None → number ≡ word_of (Some v)) → g.words.items ≡ set f.words.items place (Some number) → g.memory ≡ f.memory →
-        AreFindings layout count kept g (ds ++ Gives (name_at layout place) sort v ∷ [])
-    word_new f g place number h l none is words memory = record {
+        g.others ≡ f.others → AreFindings layout count kept g (ds ++ Gives (name_at layout place) sort v ∷ [])
+    word_new f g place number h l none is words memory others = record {
       apart = h.apart;
       count_is = ap length words ∙ length-set f.words.items place (Some number) ∙ h.count_is;
       words = λ i k. by i k (i == place) refl;
       memory =
           subst (λ (z : Option Value). IsMemoryOf kept g.memory z) (sym (given_other ds (name_at layout place) (codes "mem") sort v (h.apart.memory place l)))
           (subst (λ (z : Option Stored). IsMemoryOf kept z (given ds (codes "mem"))) (sym memory) h.memory);
+      others = λ w o.
+          ap (λ z. list_any (λ n. bytes_eq n.items w) z.items) others ∙ h.others w o
+          ∙ ap (λ (z : Option Value). is_some z) (sym (given_other ds (name_at layout place) w sort v (o.0 place l)));
     }
       where
         within : place < length f.words.items
@@ -165,10 +173,11 @@ module _ (layout : Layout) (count : ℕ) (kept : Option Found) (ds : List Defini
     memory_again f h some = findings_as f (ds ++ Gives (codes "mem") sort v ∷ []) h
         (λ i l. given_other ds (codes "mem") (name_at layout i) sort v (memory_words f h i l))
         (given_before ds (codes "mem") (codes "mem") sort v (sym (memory_is_some kept f.memory (given ds (codes "mem")) h.memory) ∙ some))
+        (λ w o. given_other ds (codes "mem") w sort v o.1)
 
     pub memory_new : (f g : Findings) (s : Stored) → AreFindings layout count kept f ds → is_some f.memory ≡ false → (kept ≡ None → IsStored s v) →
-        g.words.items ≡ f.words.items → g.memory ≡ Some s → AreFindings layout count kept g (ds ++ Gives (codes "mem") sort v ∷ [])
-    memory_new f g s h none is words memory =
+        g.words.items ≡ f.words.items → g.memory ≡ Some s → g.others ≡ f.others → AreFindings layout count kept g (ds ++ Gives (codes "mem") sort v ∷ [])
+    memory_new f g s h none is words memory others =
         let before : is_some (given ds (codes "mem")) ≡ false = sym (memory_is_some kept f.memory (given ds (codes "mem")) h.memory) ∙ none in
         let new = given_new ds (codes "mem") sort v before in record {
           apart = h.apart;
@@ -181,7 +190,58 @@ module _ (layout : Layout) (count : ℕ) (kept : Option Found) (ds : List Defini
           memory =
               subst (λ (o : Option Stored). IsMemoryOf kept o (given (ds ++ Gives (codes "mem") sort v ∷ []) (codes "mem"))) (sym memory)
               (subst (λ (z : Option Value). IsMemoryOf kept (Some s) z) (sym new) is);
+          others = λ w o.
+              ap (λ z. list_any (λ n. bytes_eq n.items w) z.items) others ∙ h.others w o
+              ∙ ap (λ (z : Option Value). is_some z) (sym (given_other ds (codes "mem") w sort v o.1));
         }
+
+    -- another symbol
+    unlike : (a b : List ℕ) → bytes_eq a b ≡ false → bytes_eq b a ≡ false
+    unlike a b h = by (bytes_eq b a) refl
+      where
+        by : (t : Bool) → bytes_eq b a ≡ t → t ≡ false
+        by false e = refl
+        by true e =
+            let same = (bytes_eq-Decides b a).0 e in
+            let x : true ≡ false = sym (same_word a) ∙ ap (λ (z : List ℕ). bytes_eq a z) (sym same) ∙ h in absurd (cc)
+
+    given_or : (n w : List ℕ) → is_some (given (ds ++ Gives n sort v ∷ []) w) ≡ (is_some (given ds w) || bytes_eq n w)
+    given_or n w = ap (λ (z : Option Value). is_some z) (given_more ds n w sort v) ∙ by (given ds w) (bytes_eq n w)
+      where
+        by : (o : Option Value) (b : Bool) → is_some (or_value o (if b then Some v else None)) ≡ (is_some o || b)
+        by None true = refl
+        by None false = refl
+        by (Some u) true = refl
+        by (Some u) false = refl
+
+    any_more : {A : Type 0} (t : A → Bool) (xs : List A) (x : A) → list_any t (xs ++ x ∷ []) ≡ (list_any t xs || t x)
+    any_more t [] x = by (t x)
+      where
+        by : (b : Bool) → (b || false) ≡ (false || b)
+        by true = refl
+        by false = refl
+    any_more t (y ∷ xs) x = by (t y) (any_more t xs x)
+      where
+        by : (b : Bool) → list_any t (xs ++ x ∷ []) ≡ (list_any t xs || t x) → (b || list_any t (xs ++ x ∷ [])) ≡ ((b || list_any t xs) || t x)
+        by true ih = refl
+        by false ih = ih
+
+    pub other_new : (f g : Findings) (n : Vec ℕ) → AreFindings layout count kept f ds → IsOtherName layout count n.items → g.words ≡ f.words →
+        g.memory ≡ f.memory → g.others.items ≡ f.others.items ++ n ∷ [] → AreFindings layout count kept g (ds ++ Gives n.items sort v ∷ [])
+    other_new f g n h o words memory others = record {
+      apart = h.apart;
+      count_is = ap (λ z. length z.items) words ∙ h.count_is;
+      words = λ i l.
+          let old = given_other ds n.items (name_at layout i) sort v (unlike (name_at layout i) n.items (o.0 i l)) in
+          subst (λ z. IsWordOf kept (slice_index_or z.items i None) (given (ds ++ Gives n.items sort v ∷ []) (name_at layout i))) (sym words)
+          (subst (λ (z : Option Value). IsWordOf kept (slice_index_or f.words.items i None) z) (sym old) (h.words i l));
+      memory =
+          subst (λ (z : Option Value). IsMemoryOf kept g.memory z) (sym (given_other ds n.items (codes "mem") sort v (unlike (codes "mem") n.items o.1)))
+          (subst (λ (z : Option Stored). IsMemoryOf kept z (given ds (codes "mem"))) (sym memory) h.memory);
+      others = λ w p.
+          ap (λ (z : List (Vec ℕ)). list_any (λ m. bytes_eq m.items w) z) others ∙ any_more (λ m. bytes_eq m.items w) f.others.items n
+          ∙ ap (λ (b : Bool). b || bytes_eq n.items w) (h.others w p) ∙ sym (given_or n.items w);
+    }
 
 -- a word by its place, as it is read
 pub none_there : (words : List (Option ℕ)) (place : ℕ) (o : Option ℕ) → o ≡ slice_index_or words place o → is_some o ≡ false → place < length words →
@@ -200,11 +260,12 @@ none_repeated (suc n) (suc i) = none_repeated n i
 
 -- before any definition
 pub no_findings : (layout : Layout) (count : ℕ) (kept : Option Found) (f : Findings) (n : ℕ) → AreApart layout count → f.words.items ≡ replicate n None →
-    n ≡ count → f.memory ≡ None → AreFindings layout count kept f []
-no_findings layout count kept f n apart words size memory = record {
+    n ≡ count → f.memory ≡ None → f.others.items ≡ [] → AreFindings layout count kept f []
+no_findings layout count kept f n apart words size memory others = record {
   apart = apart;
   count_is = ap length words ∙ length-replicate n None ∙ size;
   words = λ i l. subst (λ (o : Option ℕ). IsWordOf kept o None) (sym (ap (λ (z : List (Option ℕ)). slice_index_or z i None) words ∙ none_repeated n i))
       (record { given = refl; word = λ k. refl });
   memory = subst (λ (o : Option Stored). IsMemoryOf kept o None) (sym memory) tt;
+  others = λ w o. ap (λ (z : List (Vec ℕ)). list_any (λ m. bytes_eq m.items w) z) others;
 }

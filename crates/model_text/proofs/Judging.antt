@@ -10,17 +10,18 @@ use Rattle.model_text.specs.declared.fault.ModelFault.TheVariants.{Text, Memory}
 use Rattle.model_text.specs.declared.place.Place.TheVariants as places
 use Rattle.model_text.specs.Faults.{Found, found, first_fault, IsRefusal}
 use Rattle.model_text.specs.Judgements.{answer_to, IsRefused, IsRight}
-use Rattle.model_text.specs.Symbols.{AreSymbols, symbol_in}
+use Rattle.model_text.specs.declared.symbol.Others.{Others}
+use Rattle.model_text.specs.Symbols.{AreFrameSymbols, symbol_in}
 use Rattle.model_text.specs.Traces.{Known, At, Outcome, Whole, Refused, start, next_at, fault_before, refused, whole, judged}
 use Rattle.model_text.proofs.FirstFaults.{judged_on, judged_stop, judged_early, judged_whole}
 use Rattle.model_text.proofs.Law.{AreSorted, answer_is_right, answer_is_sorted}
 use Rattle.model_text.proofs.SymbolNames.{own_names, symbols_known}
 
 -- before the first token
-pub judged_start : (layout : Layout) (drawn : List Bool) (text : List ℕ) →
-    judged (symbol_in layout drawn) (line_after text) start (tokens_from 1 Between text) ≡ answer_to layout drawn text
+pub judged_start : (layout : Layout) (drawn : List Bool) (o : Others) (text : List ℕ) →
+    judged (symbol_in layout drawn o) (line_after text) start (tokens_from 1 Between text) ≡ answer_to layout drawn o text
 unfolding placed_tokens
-judged_start layout drawn text = refl
+judged_start layout drawn o text = refl
 
 pub on_true : (A B : Type 0) (b : Bool) → b ≡ true → MatchBool b A B → A
 on_true A B true e h = h
@@ -64,21 +65,21 @@ end_whole known last a s ts k e shape done kept =
 
 -- ---- the law, of what is answered
 
-module _ (form : forms.Layout) (drawn : List Bool) (few : length drawn < 2 ^ 64) (declared : List Declared) (are : AreSymbols (layout_of form) drawn declared)
+module _ (form : forms.Layout) (drawn : List Bool) (o : Others) (few : length drawn < 2 ^ 64) (short : length o.given.items < 2 ^ 64) (declared : List Declared) (are : AreFrameSymbols (layout_of form) drawn o declared)
     (text : List ℕ) where
   abbrev layout : Layout
   layout = layout_of form
 
-  right : IsRight declared text (answer_to layout drawn text)
-  right = answer_is_right (symbol_in layout drawn) declared (symbols_known layout drawn (own_names form) few declared are) text
+  right : IsRight declared text (answer_to layout drawn o text)
+  right = answer_is_right (symbol_in layout drawn o) declared (symbols_known layout drawn o (own_names form) few short declared are) text
 
-  pub whole_is_answer : (ds : List Definition) → answer_to layout drawn text ≡ Whole ds → IsAnswer declared text ds
+  pub whole_is_answer : (ds : List Definition) → answer_to layout drawn o text ≡ Whole ds → IsAnswer declared text ds
   whole_is_answer ds e = subst (IsRight declared text) e right
 
-  pub whole_is_sorted : (ds : List Definition) → answer_to layout drawn text ≡ Whole ds → AreSorted (symbol_in layout drawn) ds
+  pub whole_is_sorted : (ds : List Definition) → answer_to layout drawn o text ≡ Whole ds → AreSorted (symbol_in layout drawn o) ds
   whole_is_sorted ds e =
-      answer_is_sorted (symbol_in layout drawn) declared (symbols_known layout drawn (own_names form) few declared are) text ds e
+      answer_is_sorted (symbol_in layout drawn o) declared (symbols_known layout drawn o (own_names form) few short declared are) text ds e
 
-  pub refused_is_fault : (e : ModelFault) → IsRefused (answer_to layout drawn text) e → IsRefusal declared text e
+  pub refused_is_fault : (e : ModelFault) → IsRefused (answer_to layout drawn o text) e → IsRefusal declared text e
   refused_is_fault (Text line kind) h = subst (IsRight declared text) h right
   refused_is_fault Memory h = tt

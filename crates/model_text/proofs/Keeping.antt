@@ -48,6 +48,7 @@ module _ (layout : Layout) (count : ℕ) (k l : Option Found) (less : l ≡ None
       count_is = h.findings.count_is;
       words = λ i m. record { given = (h.findings.words i m).given; word = λ e. (h.findings.words i m).word (less e) };
       memory = memory_less f.memory _ h.findings.memory;
+      others = h.findings.others;
     };
     named = h.named;
   }

@@ -12,6 +12,7 @@ pub mod SortTests
 pub mod FirstFaults
 pub mod MetFaults
 pub mod Law
+pub mod OtherNames
 pub mod SymbolNames
 pub mod LineCounts
 pub mod GivenWords
@@ -19,4 +20,5 @@ pub mod FlagBits
 pub mod GivenModel
 pub mod DraftSteps
 pub mod Keeping
+pub mod OneAnswers
 pub mod Judging

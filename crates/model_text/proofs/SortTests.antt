@@ -8,7 +8,7 @@ use Rattle.word_spec.specs.Texts.{decimal_word}
 use Rattle.model_spec.specs.ModelText.{ModelToken, Open, Close, Word, Quoted, Text, Bad, Value, WordIs, ConstantIs, StoredIs, Definition, Gives, PassedOver, Sort, Words, Memories, word_sort, array_sort, IsSort, IsOfSort}
 use Rattle.model_spec.specs.Models.{given}
 use Rattle.model_text.specs.declared.symbol.Symbol.{Symbol}
-use Rattle.model_text.specs.declared.symbol.Symbol.TheVariants.{Register, Flag, Choice, Memory}
+use Rattle.model_text.specs.declared.symbol.Symbol.TheVariants.{Register, Flag, Choice, Memory, OtherRegister, OtherFlag, OtherMemory}
 use Rattle.model_text.specs.Symbols.{sort_of, pattern_of}
 use Rattle.model_text.specs.Pieces.{token_eq, left_of, is_done}
 use Rattle.model_text.specs.Traces.{is_of_sort}
@@ -48,12 +48,19 @@ sort_done (Register i) ts h =
 sort_done (Flag i) ts h = done_when (word_sort (codes "1")) ts refl (h.2 ∙ ap word_sort (said_sort h.0 (codes "1") 1 h.1 (omega arith) refl))
 sort_done (Choice i) ts h = done_when (word_sort (codes "2")) ts refl (h.2 ∙ ap word_sort (said_sort h.0 (codes "2") 2 h.1 (omega arith) refl))
 sort_done Memory ts h = done_when array_sort ts refl h
+sort_done OtherRegister ts h =
+    done_when (word_sort (codes "32")) ts refl (h.2 ∙ ap word_sort (said_sort h.0 (codes "32") 32 h.1 (omega arith) refl))
+sort_done OtherFlag ts h = done_when (word_sort (codes "1")) ts refl (h.2 ∙ ap word_sort (said_sort h.0 (codes "1") 1 h.1 (omega arith) refl))
+sort_done OtherMemory ts h = done_when array_sort ts refl h
 
 pub done_sort : (s : Symbol) (ts : List ModelToken) → is_done (left_of (pattern_of s) ts) ≡ true → IsSort (sort_of s) ts
 done_sort (Register i) ts h = (codes "32", refl, left_done (word_sort (codes "32")) ts h)
 done_sort (Flag i) ts h = (codes "1", refl, left_done (word_sort (codes "1")) ts h)
 done_sort (Choice i) ts h = (codes "2", refl, left_done (word_sort (codes "2")) ts h)
 done_sort Memory ts h = left_done array_sort ts h
+done_sort OtherRegister ts h = (codes "32", refl, left_done (word_sort (codes "32")) ts h)
+done_sort OtherFlag ts h = (codes "1", refl, left_done (word_sort (codes "1")) ts h)
+done_sort OtherMemory ts h = left_done array_sort ts h
 
 -- ---- values
 

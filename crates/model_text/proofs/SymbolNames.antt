@@ -1,7 +1,6 @@
 -- The symbols that names have are those that a script declares.
-use Rattle.std.proofs.Common.{◌≡◌, ℕ, zero, suc, ◌+◌, ◌-◌, ◌<◌, ◌≤◌, ◌^◌, Bool, true, false, arith, List, [], ◌∷◌, Option, Some, None, refl, sym, ap, ◌∙◌, subst, length}
+use Rattle.std.proofs.Common.{◌≡◌, ◌≢◌, ◌⊎◌, inl, inr, ◌++◌, ℕ, zero, suc, ◌+◌, ◌-◌, ◌<◌, ◌≤◌, ◌^◌, Bool, true, false, arith, List, [], ◌∷◌, Option, Some, None, refl, sym, ap, ◌∙◌, subst, length}
 use Rattle.std.specs.Prelude.{◌==◌, ◌&&◌, nat_lt, nat_le, if◌then◌else◌, codes, slice_get, slice_index_or, IfSome}
-use Rattle.std.specs.Option.{option_map}
 use Rattle.std.specs.Str.{bytes_eq}
 use Rattle.std.specs.Fmt.{digits}
 use Rattle.std.proofs.lemmas.Bool.{eqb-true}
@@ -19,12 +18,16 @@ use Rattle.start_value.specs.declared.layout.Layout as forms
 use Rattle.start_value.specs.declared.layout.Layout.TheVariants.{Rv32, Arm}
 use Rattle.start_value.specs.Starts.{layout_of, profile_in}
 use Rattle.model_spec.specs.ModelText.{Declared}
+use Rattle.frame_spec.specs.FrameScripts.{of_given, of_head}
+use Rattle.model_text.specs.declared.symbol.Gift.{Gift}
+use Rattle.model_text.specs.declared.symbol.Others.{Others}
 use Rattle.model_text.specs.declared.symbol.Symbol.{Symbol}
-use Rattle.model_text.specs.declared.symbol.Symbol.TheVariants.{Register, Flag, Choice, Memory}
-use Rattle.model_text.specs.Symbols.{IsSymbol, register, flag, memory, choice, AreSymbols, choice_number, choice_if, choice_symbol, value_symbol, symbol_in, sort_of, name_at, count_of, IsNamed}
+use Rattle.model_text.specs.declared.symbol.Symbol.TheVariants.{Register, Flag, Choice, Memory, OtherRegister, OtherFlag, OtherMemory}
+use Rattle.model_text.specs.Symbols.{IsSymbol, register, flag, memory, choice, AreSymbols, IsFrameSymbol, of_program, of_head_state, of_step, AreFrameSymbols, choice_number, choice_if, choice_symbol, gift_symbol_if, or_other, other_symbol, value_symbol, symbol_in, sort_of, name_at, count_of, is_other, IsNamed, IsOtherName}
 use Rattle.model_text.specs.Drafts.{AreApart}
 use Rattle.model_text.proofs.DecimalNames.{decimal_said}
 use Rattle.model_text.proofs.AnswerForms.{Knows}
+use Rattle.model_text.proofs.OtherNames.{gift_named, name_found, or_none, other_first, other_found, some_number, step_named}
 
 -- ---- the names of layouts
 
@@ -33,6 +36,8 @@ pub record HasOwnNames (layout : Layout) : Type 0 where
   pub place : (i : ℕ) → i < length (value_names layout) → place_in (value_names layout) (slice_index_or (value_names layout) i []) ≡ Some i
   pub no_memory : place_in (value_names layout) (codes "mem") ≡ None
   pub no_choice : (n : ℕ) → place_in (value_names layout) (choice_name n) ≡ None
+  pub no_head : (w : List ℕ) → place_in (value_names layout) (104 ∷ w) ≡ None
+  pub no_given : (w : List ℕ) → place_in (value_names layout) (103 ∷ w) ≡ None
 
 each_below : (f : ℕ → Bool) (n i : ℕ) → all_below f n ≡ true → i < n → f i ≡ true
 each_below f zero i e h = absurd (omega arith)
@@ -56,37 +61,20 @@ name_place layout good i l =
 
 pub own_names : (form : forms.Layout) → HasOwnNames (layout_of form)
 unfolding digits
-own_names (Rv32 compressed) = record { place = name_place (rv_layout compressed) (rv_is_layout compressed); no_memory = refl; no_choice = λ n. refl }
+own_names (Rv32 compressed) = record {
+  place = name_place (rv_layout compressed) (rv_is_layout compressed);
+  no_memory = refl;
+  no_choice = λ n. refl;
+  no_head = λ w. refl;
+  no_given = λ w. refl;
+}
 own_names (Arm big profile) = record {
   place = name_place (arm_layout (endian big) (profile_in profile)) (arm_is_layout (endian big) (profile_in profile));
   no_memory = refl;
   no_choice = λ n. refl;
+  no_head = λ w. refl;
+  no_given = λ w. refl;
 }
-
-some_number : (m n : ℕ) → Some m ≡ Some n → m ≡ n
-some_number m n h = cc
-
--- a name stands at its place
-pub name_found : (names : List (List ℕ)) (w : List ℕ) (i : ℕ) → place_in names w ≡ Some i → (i < length names) × (slice_index_or names i [] ≡ w)
-name_found [] w i h = absurd (cc)
-name_found (n ∷ names) w i h = by (bytes_eq w n) refl h (λ j e. name_found names w j e)
-  where
-    later : (o : Option ℕ) → place_in names w ≡ o → option_map (λ j. j + 1) o ≡ Some i →
-        ((j : ℕ) → place_in names w ≡ Some j → (j < length names) × (slice_index_or names j [] ≡ w)) → (i < length (n ∷ names)) × (slice_index_or (n ∷ names)
-        i [] ≡ w)
-    later None e f ih = absurd (cc)
-    later (Some j) e f ih =
-        let r = ih j e in
-        let same : suc j ≡ i = omega (arith, some_number (j + 1) i f) in
-        subst (λ (z : ℕ). (z < length (n ∷ names)) × (slice_index_or (n ∷ names) z [] ≡ w)) same (omega (arith, r.0), r.1)
-
-    by : (b : Bool) → bytes_eq w n ≡ b → (if b then Some 0 else option_map (λ j. j + 1) (place_in names w)) ≡ Some i →
-        ((j : ℕ) → place_in names w ≡ Some j → (j < length names) × (slice_index_or names j [] ≡ w)) →
-        (i < length (n ∷ names)) × (slice_index_or (n ∷ names) i [] ≡ w)
-    by true e f ih =
-        let same : 0 ≡ i = some_number 0 i f in
-        subst (λ (z : ℕ). (z < length (n ∷ names)) × (slice_index_or (n ∷ names) z [] ≡ w)) same (omega arith, sym ((bytes_eq-Decides w n).0 e))
-    by false e f ih = later (place_in names w) refl f ih
 
 -- the name of a choice, from its number
 pub choice_named : (w : List ℕ) (n : ℕ) → choice_number w ≡ Some n → n < 2 ^ 64 → w ≡ choice_name n
@@ -102,7 +90,7 @@ choice_if_some None place s h = absurd (cc)
 choice_if_some (Some false) place s h = absurd (cc)
 choice_if_some (Some true) place s h = (refl, cc)
 
-module _ (layout : Layout) (drawn : List Bool) (own : HasOwnNames layout) (few : length drawn < 2 ^ 64) where
+module _ (layout : Layout) (drawn : List Bool) (o : Others) (own : HasOwnNames layout) (few : length drawn < 2 ^ 64) (short : length o.given.items < 2 ^ 64) where
   abbrev names : List (List ℕ)
   names = value_names layout
 
@@ -134,21 +122,26 @@ module _ (layout : Layout) (drawn : List Bool) (own : HasOwnNames layout) (few :
       sym (get_or-append-add layout.registers layout.flags j []) ∙ ap (λ (z : ℕ). slice_index_or names z []) back ∙ r.1 in
       subst (λ (z : List ℕ). IsSymbol layout drawn (as_sort z (Flag i))) name (flag j l)
 
-  symbol_found : (w : List ℕ) (s : Symbol) → symbol_in layout drawn w ≡ Some s → IsSymbol layout drawn (as_sort w s)
+  symbol_found : (w : List ℕ) (s : Symbol) → symbol_in layout drawn o w ≡ Some s → IsFrameSymbol layout drawn o (as_sort w s)
   symbol_found w s h = by (bytes_eq w (codes "mem")) refl h
     where
-      of_value : (o : Option ℕ) → place_in names w ≡ o → value_symbol layout drawn w o ≡ Some s → IsSymbol layout drawn (as_sort w s)
-      of_value None e f = choice_found w (choice_number w) s refl f
+      of_none : (c : Option Symbol) → choice_symbol layout drawn (choice_number w) ≡ c → or_other c (other_symbol layout o w) ≡ Some s →
+          IsFrameSymbol layout drawn o (as_sort w s)
+      of_none (Some c) e f = of_program (choice_found w (choice_number w) s refl (e ∙ f))
+      of_none None e f = other_found layout drawn o short w s f
+
+      of_value : (i : Option ℕ) → place_in names w ≡ i → value_symbol layout drawn o w i ≡ Some s → IsFrameSymbol layout drawn o (as_sort w s)
+      of_value None e f = of_none (choice_symbol layout drawn (choice_number w)) refl f
       of_value (Some i) e f =
           let same : (if nat_lt i (length layout.registers) then Register i else Flag i) ≡ s = cc in
-          subst (λ (z : Symbol). IsSymbol layout drawn (as_sort w z)) same (place_found w i (nat_lt i (length layout.registers)) refl e)
+          subst (λ (z : Symbol). IsFrameSymbol layout drawn o (as_sort w z)) same (of_program (place_found w i (nat_lt i (length layout.registers)) refl e))
 
-      by : (b : Bool) → bytes_eq w (codes "mem") ≡ b → (if b then Some Memory else value_symbol layout drawn w (place_in names w)) ≡ Some s →
-          IsSymbol layout drawn (as_sort w s)
+      by : (b : Bool) → bytes_eq w (codes "mem") ≡ b → (if b then Some Memory else value_symbol layout drawn o w (place_in names w)) ≡ Some s →
+          IsFrameSymbol layout drawn o (as_sort w s)
       by true e f =
           let same : Memory ≡ s = cc in
-          subst (λ (z : Symbol). IsSymbol layout drawn (as_sort w z)) same
-          (subst (λ (z : List ℕ). IsSymbol layout drawn (as_sort z Memory)) (sym ((bytes_eq-Decides w (codes "mem")).0 e)) memory)
+          subst (λ (z : Symbol). IsFrameSymbol layout drawn o (as_sort w z)) same
+          (subst (λ (z : List ℕ). IsFrameSymbol layout drawn o (as_sort z Memory)) (sym ((bytes_eq-Decides w (codes "mem")).0 e)) (of_program memory))
       by false e f = of_value (place_in names w) refl f
 
   -- a name of a register or a flag is not the memory's
@@ -157,44 +150,59 @@ module _ (layout : Layout) (drawn : List Bool) (own : HasOwnNames layout) (few :
   not_memory i w h true e =
       let x : None ≡ Some i = sym own.no_memory ∙ ap (place_in names) (sym ((bytes_eq-Decides w (codes "mem")).0 e)) ∙ h in absurd (cc)
 
-  pub placed_symbol : (i : ℕ) (w : List ℕ) → place_in names w ≡ Some i → symbol_in layout drawn w ≡ Some (if nat_lt i (length layout.registers) then Register
+  pub placed_symbol : (i : ℕ) (w : List ℕ) → place_in names w ≡ Some i → symbol_in layout drawn o w ≡ Some (if nat_lt i (length layout.registers) then Register
       i else Flag i)
   placed_symbol i w h =
-      ap (λ (b : Bool). if b then Some Memory else value_symbol layout drawn w (place_in names w)) (not_memory i w h (bytes_eq w (codes "mem")) refl)
-      ∙ ap (value_symbol layout drawn w) h
+      ap (λ (b : Bool). if b then Some Memory else value_symbol layout drawn o w (place_in names w)) (not_memory i w h (bytes_eq w (codes "mem")) refl)
+      ∙ ap (value_symbol layout drawn o w) h
 
-  pub register_symbol : (i : ℕ) → i < length layout.registers → symbol_in layout drawn (slice_index_or layout.registers i []) ≡ Some (Register i)
+  pub register_symbol : (i : ℕ) → i < length layout.registers → symbol_in layout drawn o (slice_index_or layout.registers i []) ≡ Some (Register i)
   register_symbol i l =
       let name : slice_index_or names i [] ≡ slice_index_or layout.registers i [] = get_or_append_left layout.registers layout.flags [] i l in
       let there = own.place i (omega (arith, l, length-append layout.registers layout.flags)) in
       let less : nat_lt i (length layout.registers) ≡ true = grind (arith, nat_tests) in
-      ap (symbol_in layout drawn) (sym name) ∙ placed_symbol i (slice_index_or names i []) there ∙ ap (λ (b : Bool). Some (if b then Register i else Flag i))
+      ap (symbol_in layout drawn o) (sym name) ∙ placed_symbol i (slice_index_or names i []) there ∙ ap (λ (b : Bool). Some (if b then Register i else Flag i))
       less
 
   pub flag_symbol : (i : ℕ) → i < length layout.flags →
-      symbol_in layout drawn (slice_index_or layout.flags i []) ≡ Some (Flag (length layout.registers + i))
+      symbol_in layout drawn o (slice_index_or layout.flags i []) ≡ Some (Flag (length layout.registers + i))
   flag_symbol i l =
       let at = length layout.registers + i in
       let name : slice_index_or names at [] ≡ slice_index_or layout.flags i [] = get_or-append-add layout.registers layout.flags i [] in
       let there = own.place at (omega (arith, l, length-append layout.registers layout.flags)) in
       let more : nat_lt at (length layout.registers) ≡ false = grind (arith, nat_tests) in
-      ap (symbol_in layout drawn) (sym name) ∙ placed_symbol at (slice_index_or names at []) there ∙ ap (λ (b : Bool). Some (if b then Register at else Flag
+      ap (symbol_in layout drawn o) (sym name) ∙ placed_symbol at (slice_index_or names at []) there ∙ ap (λ (b : Bool). Some (if b then Register at else Flag
       at)) more
 
-  pub choice_symbol_is : (n : ℕ) → n < 2 ^ 64 → symbol_in layout drawn (choice_name n) ≡ choice_if (slice_get drawn n) (length names + n)
+  pub choice_symbol_is : (n : ℕ) → n < 2 ^ 64 → symbol_in layout drawn o (choice_name n) ≡ choice_if (slice_get drawn n) (length names + n)
   choice_symbol_is n l =
-      ap (λ (o : Option ℕ). value_symbol layout drawn (choice_name n) o) (own.no_choice n)
-      ∙ ap (λ (o : Option ℕ). choice_symbol layout drawn o) (decimal_back n l)
+      ap (λ (i : Option ℕ). value_symbol layout drawn o (choice_name n) i) (own.no_choice n)
+      ∙ ap (λ (i : Option ℕ). or_other (choice_symbol layout drawn i) None) (decimal_back n l)
+      ∙ or_none (choice_if (slice_get drawn n) (length names + n))
 
-  symbol_named : (d : Declared) → IsSymbol layout drawn d → (s : Symbol) × (symbol_in layout drawn d.name ≡ Some s) × (sort_of s ≡ d.sort)
-  symbol_named d (register i l) = (Register i, register_symbol i l, refl)
-  symbol_named d (flag i l) = (Flag (length layout.registers + i), flag_symbol i l, refl)
-  symbol_named d memory = (Memory, refl, refl)
-  symbol_named d (choice n e) =
+  symbol_named : (d : Declared) → IsFrameSymbol layout drawn o d → (s : Symbol) × (symbol_in layout drawn o d.name ≡ Some s) × (sort_of s ≡ d.sort)
+  symbol_named d (of_program (register i l)) = (Register i, register_symbol i l, refl)
+  symbol_named d (of_program (flag i l)) = (Flag (length layout.registers + i), flag_symbol i l, refl)
+  symbol_named d (of_program memory) = (Memory, refl, refl)
+  symbol_named d (of_program (choice n e)) =
       let l = slice_get_within drawn n true e in
-      (Choice (length names + n), choice_symbol_is n (omega (arith, l, few)) ∙ ap (λ (o : Option Bool). choice_if o (length names + n)) e, refl)
+      (Choice (length names + n), choice_symbol_is n (omega (arith, l, few)) ∙ ap (λ (b : Option Bool). choice_if b (length names + n)) e, refl)
+  symbol_named d (of_head_state g w sort e h) =
+      let r = gift_named layout own.place own.no_memory g w sort h in (
+        r.0,
+        ap (value_symbol layout drawn o (of_head w)) (own.no_head (95 ∷ w)) ∙ ap (λ (x : Option Gift). gift_symbol_if layout x w) e ∙ r.1,
+        r.2,
+      )
+  symbol_named d (of_step n g w sort e h) =
+      let r = gift_named layout own.place own.no_memory g w sort h in
+      let l = slice_get_within o.given.items n (Some g) e in (
+        r.0,
+        ap (value_symbol layout drawn o (of_given n w)) (own.no_given ((number_text n ++ codes "_") ++ w))
+            ∙ step_named layout o.given.items n g w (omega (arith, l, short)) e ∙ r.1,
+        r.2,
+      )
 
-  pub symbols_known : (declared : List Declared) → AreSymbols layout drawn declared → Knows (symbol_in layout drawn) declared
+  pub symbols_known : (declared : List Declared) → AreFrameSymbols layout drawn o declared → Knows (symbol_in layout drawn o) declared
   symbols_known declared are = record {
     found = λ w s h. (are (as_sort w s)).1 (symbol_found w s h);
     other = λ d c. symbol_named d ((are d).0 c);
@@ -293,3 +301,61 @@ module _ (layout : Layout) (drawn : List Bool) (own : HasOwnNames layout) (few :
     each = λ i j k l h. each_apart i j (nat_lt i size) (nat_lt j size) refl refl k l ((bytes_eq-Decides (name_at layout i) (name_at layout j)).0 h);
     memory = λ i k. memory_apart i (nat_lt i size) refl (bytes_eq (name_at layout i) (codes "mem")) refl;
   }
+
+-- the names of the others are apart from those
+module _ (layout : Layout) (drawn : List Bool) (o : Others) (own : HasOwnNames layout) where
+  none_alike : (w : List ℕ) → place_in (value_names layout) w ≡ None → ((n : ℕ) → choice_name n ≡ w → ⊥) → (codes "mem" ≡ w → ⊥) →
+      IsOtherName layout (count_of layout drawn) w
+  none_alike w none choices apart = (λ i l. by i (bytes_eq (name_at layout i) w) refl, by_memory (bytes_eq (codes "mem") w) refl)
+    where
+      alike : (i : ℕ) (c : Bool) → nat_lt i (length (value_names layout)) ≡ c →
+          (if c then slice_index_or (value_names layout) i [] else choice_name (i - length (value_names layout))) ≡ w → ⊥
+      alike i true e f =
+          let there = own.place i (grind (arith, nat_tests, e)) in
+          let x : Some i ≡ None = sym there ∙ ap (place_in (value_names layout)) f ∙ none in cc
+      alike i false e f = choices (i - length (value_names layout)) f
+
+      by : (i : ℕ) (b : Bool) → bytes_eq (name_at layout i) w ≡ b → b ≡ false
+      by i false e = refl
+      by i true e = absurd (alike i (nat_lt i (length (value_names layout))) refl ((bytes_eq-Decides (name_at layout i) w).0 e))
+
+      by_memory : (b : Bool) → bytes_eq (codes "mem") w ≡ b → b ≡ false
+      by_memory false e = refl
+      by_memory true e = absurd (apart ((bytes_eq-Decides (codes "mem") w).0 e))
+
+  first_of : List ℕ → ℕ
+  first_of [] = 0
+  first_of (b ∷ w) = b
+
+  pub other_is_named : (w : List ℕ) (r : Option Symbol) → r ≡ other_symbol layout o w → IfSome r (λ s. IsNamed layout (count_of layout drawn) s w)
+  unfolding first_of
+  other_is_named w None e = tt
+  other_is_named w (Some s) e = by (other_first layout o w s (sym e))
+    where
+      apart : (b : ℕ) (v : List ℕ) → w ≡ b ∷ v → b ≢ 99 → b ≢ 109 → place_in (value_names layout) (b ∷ v) ≡ None → IsOtherName layout (count_of layout drawn) w
+      apart b v f c m none =
+          none_alike w (ap (place_in (value_names layout)) f ∙ none) (λ n h. c (sym (ap first_of (h ∙ f)))) (λ h. m (sym (ap first_of (h ∙ f))))
+
+      of_other : (s : Symbol) (w : List ℕ) → is_other s ≡ true → IsOtherName layout (count_of layout drawn) w → IsNamed layout (count_of layout drawn) s w
+      of_other (Register i) w h k = absurd (cc)
+      of_other (Flag i) w h k = absurd (cc)
+      of_other (Choice i) w h k = absurd (cc)
+      of_other Memory w h k = absurd (cc)
+      of_other OtherRegister w h k = k
+      of_other OtherFlag w h k = k
+      of_other OtherMemory w h k = k
+
+      by : (is_other s ≡ true) × (((v : List ℕ) × (w ≡ 104 ∷ v)) ⊎ ((v : List ℕ) × (w ≡ 103 ∷ v))) → IsNamed layout (count_of layout drawn) s w
+      by (other, inl (v, f)) = of_other s w other (apart 104 v f (λ h. omega (arith, h)) (λ h. omega (arith, h)) (own.no_head v))
+      by (other, inr (v, f)) = of_other s w other (apart 103 v f (λ h. omega (arith, h)) (λ h. omega (arith, h)) (own.no_given v))
+
+-- where there are no others, the symbols are those of a program
+pub only_program : (layout : Layout) (drawn : List Bool) (o : Others) (declared : List Declared) → o.head ≡ None → o.given.items ≡ [] →
+    AreSymbols layout drawn declared → AreFrameSymbols layout drawn o declared
+only_program layout drawn o declared no_head no_given are d = (λ h. of_program ((are d).0 h), λ h. (are d).1 (back d h))
+  where
+    back : (d : Declared) → IsFrameSymbol layout drawn o d → IsSymbol layout drawn d
+    back d (of_program h) = h
+    back d (of_head_state g w sort e h) = absurd (let x : None ≡ Some g = sym no_head ∙ e in cc)
+    back d (of_step n g w sort e h) =
+        absurd (let x : ◌≡◌ {A = Option (Option Gift)} None (Some (Some g)) = sym (ap (λ (z : List (Option Gift)). slice_get z n) no_given) ∙ e in cc)

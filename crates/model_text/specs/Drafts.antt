@@ -1,5 +1,6 @@
 -- What is kept of an answer's tokens.
 use Rattle.std.specs.Prelude.{ℕ, ◌≡◌, ◌<◌, ◌-◌, ◌%◌, ◌^◌, true, false, List, Option, Some, None, is_some, length, slice_index_or, codes}
+use Rattle.std.specs.List.{list_any}
 use Rattle.std.specs.Option.{option_map}
 use Rattle.std.specs.Str.{bytes_eq}
 use Rattle.word_spec.specs.Words.{bit_at}
@@ -12,7 +13,7 @@ use Rattle.model_text.specs.declared.findings.Findings.{Findings}
 use Rattle.model_text.specs.declared.reading.Reading.{Reading}
 use Rattle.model_text.specs.Bits.{capped_bits}
 use Rattle.model_text.specs.Stores.{last_byte, AreBytes}
-use Rattle.model_text.specs.Symbols.{sort_of, is_memory, pattern_of, name_at, IsNamed}
+use Rattle.model_text.specs.Symbols.{sort_of, is_memory, is_other, pattern_of, name_at, IsNamed, IsOtherName}
 use Rattle.model_text.specs.Pieces.{pieces_of, left_of}
 use Rattle.model_text.specs.Places.{is_closing}
 use Rattle.model_text.specs.Faults.{Found, kept_of}
@@ -34,6 +35,7 @@ pub record IsDraft (d : Draft) (tr : Trace) : Type 0 where
   pub number : is_memory tr.symbol ≡ false → d.good ≡ true → d.number ≡ word_of (Some tr.value)
   pub memory : is_memory tr.symbol ≡ true → d.good ≡ true → (a : ℕ) → last_byte d.stored.fill d.stored.stores.items a ≡ byte_of tr.value a
   pub ranges : AreBytes d.stored.stores.items
+  pub name : is_other tr.symbol ≡ true → d.name.items ≡ tr.name
 
 -- the word of a symbol: whether it is given, and its value where there is no fault
 abbrev pub or_zero : Option ℕ → ℕ
@@ -67,6 +69,7 @@ pub record AreFindings (layout : Layout) (count : ℕ) (kept : Option Found) (f 
   pub count_is : length f.words.items ≡ count
   pub words : (i : ℕ) → i < count → IsWordOf kept (slice_index_or f.words.items i None) (given ds (name_at layout i))
   pub memory : IsMemoryOf kept f.memory (given ds (codes "mem"))
+  pub others : (w : List ℕ) → IsOtherName layout count w → list_any (λ n. bytes_eq n.items w) f.others.items ≡ is_some (given ds w)
 
 -- what is kept of the tokens
 pub record IsLearnt (layout : Layout) (count : ℕ) (kept : Option Found) (d : Draft) (f : Findings) (tr : Trace) : Type 0 where

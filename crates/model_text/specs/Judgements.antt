@@ -5,12 +5,13 @@ use Rattle.model_spec.specs.ModelText.{Declared, IsAnswer, IsModelFault, line_af
 use Rattle.model_text.specs.declared.fault.ModelFault.{ModelFault}
 use Rattle.model_text.specs.declared.fault.ModelFault.TheVariants.{Text, Memory}
 use Rattle.model_text.specs.Faults.{fault_of, found}
+use Rattle.model_text.specs.declared.symbol.Others.{Others}
 use Rattle.model_text.specs.Symbols.{symbol_in}
 use Rattle.model_text.specs.Traces.{Outcome, Whole, Refused, start, judged}
 
 -- what is answered to a text
-abbrev pub answer_to : Layout → List Bool → List ℕ → Outcome
-answer_to layout drawn t = judged (symbol_in layout drawn) (line_after t) start (placed_tokens t)
+abbrev pub answer_to : Layout → List Bool → Others → List ℕ → Outcome
+answer_to layout drawn o t = judged (symbol_in layout drawn o) (line_after t) start (placed_tokens t)
 
 -- the error says it; want of memory says nothing
 abbrev pub IsRefused : Outcome → ModelFault → Type 0

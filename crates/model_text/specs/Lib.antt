@@ -11,3 +11,4 @@ pub mod Stores
 pub mod Drafts
 pub mod Answers
 pub mod Judgements
+pub mod OneAnswers

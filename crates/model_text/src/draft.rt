@@ -22,6 +22,8 @@ use std::mem;
 #[derive(Drop)]
 pub(crate) struct Draft {
     pub(crate) symbol: Symbol,
+    /// Its name, where it has no place.
+    pub(crate) name: Vec<u8>,
     /// What is left of the tokens of the symbol's sort, if those of the definition's are the same so far.
     pub(crate) sort_left: Option<&'static [Piece]>,
     /// The same of the sort of the array with one value, which is that of memories.
@@ -57,6 +59,9 @@ impl Bits {
             Symbol::Flag { .. } => self.fits(1, 2),
             Symbol::Choice { .. } => self.fits(2, 4),
             Symbol::Memory => false,
+            Symbol::OtherRegister => self.fits(32, 1 << 32),
+            Symbol::OtherFlag => self.fits(1, 2),
+            Symbol::OtherMemory => false,
         }
     }
 }
@@ -72,6 +77,7 @@ impl Draft {
         };
         Draft {
             symbol: Symbol::Memory,
+            name: Vec::new(alloc),
             sort_left: Some(memory_pieces()),
             constant_left: Some(memory_pieces()),
             bits: none,
@@ -85,13 +91,16 @@ impl Draft {
         }
     }
 
-    /// Begins the definition of a symbol.
-    pub(crate) fn begin(&mut self, symbol: Symbol)
-        ensures { (tr : Trace) (w : List ℕ) → IsDraft self.old tr → IsDraft self.new (named (Some symbol) w tr) }
+    /// Begins the definition of a symbol of a name. The error is want of memory.
+    pub(crate) fn begin(&mut self, symbol: Symbol, name: &[u8]) -> Result<(), AllocError>
+        ensures { (tr : Trace) → IsDraft self.old tr → OnOk result (IsDraft self.new (named (Some symbol) name.now tr)) }
     {
         self.symbol = symbol;
+        self.name.clear();
+        self.name.extend_from_slice(name)?;
         self.sort_left = Some(pieces(symbol));
         self.good = false;
+        Ok(())
     }
 
     /// Takes the last word of bits as a value.

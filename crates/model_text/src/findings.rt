@@ -1,21 +1,24 @@
 //! The values that were read.
-ghost use Rattle.std.specs.Prelude.{◌≡◌, ◌<◌, ◌∷◌, ◌++◌, [], ℕ, List, Option, Some, None, is_some, codes, IfOk};
+ghost use Rattle.std.specs.Prelude.{◌≡◌, ◌<◌, ◌∷◌, ◌++◌, [], ℕ, List, Option, Some, None, true, is_some, codes, IfOk, OnOk};
+ghost use Rattle.std.specs.List.{list_any};
+ghost use Rattle.std.specs.Str.{bytes_eq};
 ghost use Rattle.machine_spec.specs.StateText as texts;
 ghost use Rattle.model_spec.specs.ModelText.{Definition, Gives, ModelToken, Value};
 ghost use Rattle.model_spec.specs.Models.{given, word_of};
 ghost use Rattle.model_text.specs.Drafts.{AreApart, AreFindings, IsStored};
 ghost use Rattle.model_text.specs.Faults.{Found};
-ghost use Rattle.model_text.specs.Symbols.{name_at, IsNamed};
+ghost use Rattle.model_text.specs.Symbols.{is_other, name_at, IsNamed, IsOtherName};
 
 use crate::stores::Stored;
 use crate::symbol::Symbol;
 use std::alloc::{AllocError, Global};
 
-/// The values that whole definitions give: the words by the places of symbols, and the array of the memory.
+/// The values that whole definitions give: the words by the places of symbols, and the array of the memory; and the names of the other symbols that have one.
 #[derive(Drop)]
 pub(crate) struct Findings {
     pub(crate) words: Vec<Option<u32>>,
     pub(crate) memory: Option<Stored>,
+    pub(crate) others: Vec<Vec<u8>>,
 }
 
 impl Findings {
@@ -30,6 +33,7 @@ impl Findings {
         Ok(Findings {
             words,
             memory: None,
+            others: Vec::new(alloc),
         })
     }
 
@@ -55,17 +59,39 @@ impl Findings {
         }
     }
 
-    /// Whether a value was given to a symbol.
-    pub(crate) fn is_given(&self, symbol: Symbol) -> bool
+    /// Takes the name of another symbol. The error is want of memory.
+    pub(crate) fn take_other(&mut self, alloc: Global, name: &[u8]) -> Result<(), AllocError>
+        ensures { (layout : texts.Layout) (count : ℕ) (kept : Option Found) (ds : List Definition) (sort : List ModelToken) (v : Value) →
+            IsOtherName layout count name.now → AreFindings layout count kept self.old ds →
+            OnOk result (AreFindings layout count kept self.new (ds ++ Gives name.now sort v ∷ [])) }
+    {
+        let name = name.to_vec(alloc)?;
+        self.others.push(name)?;
+        Ok(())
+    }
+
+    /// Whether a value was given to a symbol of a name.
+    pub(crate) fn is_given(&self, symbol: Symbol, name: &[u8]) -> bool
         ensures { (layout : texts.Layout) (count : ℕ) (kept : Option Found) (ds : List Definition) (w : List ℕ) →
-            IsNamed layout count symbol w → AreFindings layout count kept self.now ds → result ≡ is_some (given ds w) }
+            IsNamed layout count symbol w → (is_other symbol ≡ true → name.now ≡ w) → AreFindings layout count kept self.now ds →
+            result ≡ is_some (given ds w) }
     {
         match symbol {
             Symbol::Register { place } => self.has_word(place),
             Symbol::Flag { place } => self.has_word(place),
             Symbol::Choice { place } => self.has_word(place),
             Symbol::Memory => self.memory.is_some(),
+            Symbol::OtherRegister => self.has_other(name),
+            Symbol::OtherFlag => self.has_other(name),
+            Symbol::OtherMemory => self.has_other(name),
         }
+    }
+
+    /// Whether a value was given to another symbol.
+    fn has_other(&self, name: &[u8]) -> bool
+        ensures { result ≡ list_any (λ n. bytes_eq n.items name.now) self.now.others.items }
+    {
+        self.others.iter().any(|other| other.as_slice() == name)
     }
 
     /// Whether the word at a place was given.

@@ -7,6 +7,7 @@ mod draft;
 mod fault;
 mod findings;
 mod kept;
+mod laws;
 mod model;
 mod piece;
 mod place;
@@ -19,5 +20,7 @@ mod symbol;
 mod token;
 
 pub use fault::{ModelFault, ModelFaultKind};
+pub use laws::one_answer;
 pub use model::{Model, ModelMemory};
-pub use read::read_model;
+pub use read::{read_frame_model, read_model};
+pub use symbol::{Gift, Others};

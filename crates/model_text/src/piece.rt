@@ -73,6 +73,9 @@ pub(crate) fn pieces(symbol: Symbol) -> &'static [Piece]
         Symbol::Flag { .. } => &FLAG,
         Symbol::Choice { .. } => &CHOICE,
         Symbol::Memory => &MEMORY,
+        Symbol::OtherRegister => &REGISTER,
+        Symbol::OtherFlag => &FLAG,
+        Symbol::OtherMemory => &MEMORY,
     }
 }
 

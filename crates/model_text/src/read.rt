@@ -8,7 +8,7 @@ ghost use Rattle.model_text.specs.Drafts.{AreFindings, AreFlags, IsMemoryOf, or_
 ghost use Rattle.model_text.specs.Faults.{IsRefusal, kept_of};
 ghost use Rattle.model_text.specs.Judgements.{answer_to, IsRefused};
 ghost use Rattle.model_text.specs.Stores.{AreBytes};
-ghost use Rattle.model_text.specs.Symbols.{AreSymbols, count_of};
+ghost use Rattle.model_text.specs.Symbols.{AreFrameSymbols, AreSymbols, count_of};
 ghost use Rattle.model_text.specs.Traces.{Outcome, Whole, Refused};
 
 use crate::fault::ModelFault;
@@ -19,6 +19,7 @@ use crate::place::Place;
 use crate::reading::Reading;
 use crate::scanner::next_token;
 use crate::stores::Stored;
+use crate::symbol::Others;
 use start_value::Layout;
 use std::alloc::{AllocError, Global};
 
@@ -53,16 +54,17 @@ fn read_findings(
     text: &[u8],
     layout: Layout,
     drawn: &[bool],
+    others: &Others,
 ) -> Result<Findings, ModelFault>
-    ensures read { IfOk result (λ f. (ds : List Definition) × (answer_to (layout_of layout) drawn.now text.now ≡ Whole ds)
+    ensures read { IfOk result (λ f. (ds : List Definition) × (answer_to (layout_of layout) drawn.now others.now text.now ≡ Whole ds)
         × AreFindings (layout_of layout) (count_of (layout_of layout) drawn.now) None f ds) }
-    ensures refused { IfErr result (IsRefused (answer_to (layout_of layout) drawn.now text.now)) }
+    ensures refused { IfErr result (IsRefused (answer_to (layout_of layout) drawn.now others.now text.now)) }
 {
     let mut reading = Reading::new(alloc, layout, drawn)?;
     let mut rest = text;
     let mut line = 1;
     while let Some((placed, tail)) = next_token(rest, line) {
-        if !reading.take(alloc, layout, drawn, placed)? {
+        if !reading.take(alloc, layout, drawn, others, placed)? {
             return Err(refused(reading.refusal(placed.line)));
         }
         rest = tail.text;
@@ -156,14 +158,38 @@ fn model_of(
     })
 }
 
-/// The values that an answer gives: what a solver prints after `sat` to the script of a question.
+/// The values that an answer gives to the script of a question of a frame: what a solver prints after `sat`.
 ///
 /// The script declares the registers and flags of `layout`, the memory, and a choice for each point whose row reads it: `drawn` says so of each point, by its
-/// number in the script.
+/// number in the script. Of a head state and of contract steps it declares `others`, whose values are not kept. The time is that of the text, and the square of
+/// the number of others that it gives.
 ///
 /// # Errors
 ///
 /// `Text` with the first line that is refused, and its first fault in the order of [`ModelFaultKind`](crate::ModelFaultKind); `Memory` where memory ran out.
+pub fn read_frame_model(
+    alloc: Global,
+    text: &[u8],
+    layout: Layout,
+    drawn: &[bool],
+    others: &Others,
+) -> Result<Model, ModelFault>
+    ensures read { (declared : List Declared) → AreFrameSymbols (layout_of layout) drawn.now others.now declared → IfOk result (λ m.
+        (ds : List Definition) × IsAnswer declared text.now ds × IsModelOf (layout_of layout) (length drawn.now) ds m) }
+    ensures refused { (declared : List Declared) → AreFrameSymbols (layout_of layout) drawn.now others.now declared →
+        IfErr result (IsRefusal declared text.now) }
+{
+    let Findings { words, memory, .. } = read_findings(alloc, text, layout, drawn, others)?;
+    let memory = settled(alloc, memory)?;
+    let model = model_of(alloc, layout, &words, memory)?;
+    Ok(model)
+}
+
+/// The same of the script of a question of a program, which declares no others.
+///
+/// # Errors
+///
+/// As those of `read_frame_model`.
 pub fn read_model(
     alloc: Global,
     text: &[u8],
@@ -174,8 +200,10 @@ pub fn read_model(
         (ds : List Definition) × IsAnswer declared text.now ds × IsModelOf (layout_of layout) (length drawn.now) ds m) }
     ensures refused { (declared : List Declared) → AreSymbols (layout_of layout) drawn.now declared → IfErr result (IsRefusal declared text.now) }
 {
-    let Findings { words, memory } = read_findings(alloc, text, layout, drawn)?;
-    let memory = settled(alloc, memory)?;
-    let model = model_of(alloc, layout, &words, memory)?;
+    let none = Others {
+        head: None,
+        given: Vec::new(alloc),
+    };
+    let model = read_frame_model(alloc, text, layout, drawn, &none)?;
     Ok(model)
 }

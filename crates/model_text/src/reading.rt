@@ -18,7 +18,7 @@ use crate::findings::Findings;
 use crate::kept::Kept;
 use crate::piece::is_done;
 use crate::place::Place;
-use crate::symbol::{Symbol, symbol_of};
+use crate::symbol::{Others, Symbol, symbol_of};
 use crate::token::{Placed, Token};
 use start_value::Layout;
 use std::alloc::{AllocError, Global};
@@ -35,11 +35,11 @@ pub(crate) struct Reading {
     pub(crate) findings: Findings,
 }
 
-/// Keeps what the definition of a declared symbol gives, whose closing bracket is read.
-fn close(alloc: Global, draft: &mut Draft, findings: &mut Findings)
+/// Keeps what the definition of a declared symbol gives, whose closing bracket is read. The error is want of memory.
+fn close(alloc: Global, draft: &mut Draft, findings: &mut Findings) -> Result<(), AllocError>
     ensures { (layout : texts.Layout) (count : ℕ) (kept : Option Found) (tr : Trace) (token : ModelToken) →
         (kept ≡ None → draft.old.good ≡ true) → IsLearnt layout count kept draft.old findings.old tr →
-        IsLearnt layout count kept draft.new findings.new (traced Closing None token tr) }
+        OnOk result (IsLearnt layout count kept draft.new findings.new (traced Closing None token tr)) }
 {
     draft.good = false;
     match draft.symbol {
@@ -47,7 +47,11 @@ fn close(alloc: Global, draft: &mut Draft, findings: &mut Findings)
         Symbol::Flag { place } => findings.take_word(place, draft.number),
         Symbol::Choice { place } => findings.take_word(place, draft.number),
         Symbol::Memory => findings.take_memory(draft.take_stored(alloc)),
+        Symbol::OtherRegister => findings.take_other(alloc, &draft.name)?,
+        Symbol::OtherFlag => findings.take_other(alloc, &draft.name)?,
+        Symbol::OtherMemory => findings.take_other(alloc, &draft.name)?,
     }
+    Ok(())
 }
 
 /// Takes a token, which can stand at a place; the symbol is the declared one that a definition names there. The error is want of memory.
@@ -66,11 +70,11 @@ fn learn(
     match place {
         Place::Name => {
             if let Some(symbol) = symbol {
-                draft.begin(symbol);
+                draft.begin(symbol, token.name())?;
             }
         }
         Place::Passing { .. } => (),
-        Place::Closing => close(alloc, draft, findings),
+        Place::Closing => close(alloc, draft, findings)?,
         _ => draft.take(place, token)?,
     }
     Ok(())
@@ -93,7 +97,7 @@ fn fault(
                 return None;
             }
             findings
-                .is_given(draft.symbol)
+                .is_given(draft.symbol, &draft.name)
                 .then_some(ModelFaultKind::Twice)
         }
         Place::Sort { .. } => {
@@ -137,12 +141,18 @@ impl Reading {
     }
 
     /// The declared symbol that a token names, where a definition is named.
-    fn symbol_at(&self, layout: Layout, drawn: &[bool], token: Token<'_>) -> Option<Symbol>
-        ensures symbol { result ≡ symbol_at (symbol_in (layout_of layout) drawn.now) self.now.place (token_of token.entry) }
+    fn symbol_at(
+        &self,
+        layout: Layout,
+        drawn: &[bool],
+        others: &Others,
+        token: Token<'_>,
+    ) -> Option<Symbol>
+        ensures symbol { result ≡ symbol_at (symbol_in (layout_of layout) drawn.now others.now) self.now.place (token_of token.entry) }
         ensures named { IsNamedIf (layout_of layout) (count_of (layout_of layout) drawn.now) result (name_text (token_of token.entry)) }
     {
         match self.place {
-            Place::Name => symbol_of(layout, drawn, token.name()),
+            Place::Name => symbol_of(layout, drawn, others, token.name()),
             _ => None,
         }
     }
@@ -153,18 +163,19 @@ impl Reading {
         alloc: Global,
         layout: Layout,
         drawn: &[bool],
+        others: &Others,
         placed: Placed<'_>,
     ) -> Result<bool, AllocError>
         requires { place_depth self.old.place < 2 ^ 63 }
         ensures keeps { (s : At) → Keeps (layout_of layout) (count_of (layout_of layout) drawn.now) self.old s → IfOk result (λ b. MatchBool b
-            (IsSomeAnd (next_at (symbol_in (layout_of layout) drawn.now) s (placed_of placed.entry)) (λ next.
+            (IsSomeAnd (next_at (symbol_in (layout_of layout) drawn.now others.now) s (placed_of placed.entry)) (λ next.
             Keeps (layout_of layout) (count_of (layout_of layout) drawn.now) self.new next))
-            ((next_at (symbol_in (layout_of layout) drawn.now) s (placed_of placed.entry) ≡ None)
+            ((next_at (symbol_in (layout_of layout) drawn.now others.now) s (placed_of placed.entry) ≡ None)
             × (Keeps (layout_of layout) (count_of (layout_of layout) drawn.now) self.new s))) }
         ensures depth { OnOk result (place_depth self.new.place ≤ place_depth self.old.place + 1) }
     {
         let place = self.place;
-        let symbol = self.symbol_at(layout, drawn, placed.token);
+        let symbol = self.symbol_at(layout, drawn, others, placed.token);
         let Some(next) = place.next(placed.token, symbol.is_some()) else {
             return Ok(false);
         };

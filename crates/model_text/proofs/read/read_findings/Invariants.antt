@@ -12,8 +12,8 @@ abbrev pub invariant-loop-placed : goal.invariant-loop-placed
 invariant-loop-placed l = record {
   at : At;
   keeps : Keeps (layout_of l.layout) (count_of (layout_of l.layout) l.drawn) l.reading at;
-  judged_is : judged (symbol_in (layout_of l.layout) l.drawn) (line_after l.text) at (tokens_from l.line Between l.rest) ≡ answer_to (layout_of l.layout)
-      l.drawn l.text;
+  judged_is : judged (symbol_in (layout_of l.layout) l.drawn l.others) (line_after l.text) at (tokens_from l.line Between l.rest) ≡ answer_to (layout_of l.layout)
+      l.drawn l.others l.text;
   depth : place_depth l.reading.place + length l.rest ≤ length l.text;
   room : l.line + length l.rest ≤ 1 + length l.text;
 }

@@ -12,7 +12,7 @@ returns-then-is_none c = λ layout count kept ds sort v l is h. word_new layout 
       c.if-place-len.true,
       c.len.ensures,
       c.args.self.now.words.ok.0,
-    ))) is refl refl
+    ))) is refl refl refl
 
 pub returns-else-place-len : goal.returns-else-place-len
 returns-else-place-len c = λ layout count kept ds sort v l is h. elim c.else-place-len.branch [

@@ -14,7 +14,7 @@ pub returns-clause-keeps : goal.returns-clause-keeps
 returns-clause-keeps c = λ s h.
     let layout = layout_of c.args.layout in
     let count = count_of layout c.args.drawn.now in
-    taken_keeps layout count (symbol_in layout c.args.drawn.now) c.args.self.now
+    taken_keeps layout count (symbol_in layout c.args.drawn.now c.args.others.now) c.args.self.now
     (record {
       place = c.in-Some.next;
       begun = c.begun_at-begun.result;
