@@ -5,3 +5,5 @@ pub mod FrameNames
 pub mod Replayed
 pub mod Wholes
 pub mod WorkSamples
+pub mod FrameDeclared
+pub mod OneNumbering

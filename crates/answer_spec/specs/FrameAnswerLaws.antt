@@ -1,5 +1,5 @@
 -- Laws of answers to notes that may have invariants or contracts.
-use Rattle.std.specs.Prelude.{ℕ, ◌≡◌, ◌≤◌, ◌<◌, All, ◌↔◌, Bool, false, List, [], Some, None, slice_get, Contains}
+use Rattle.std.specs.Prelude.{ℕ, ◌≡◌, ◌≤◌, ◌<◌, All, ◌↔◌, Bool, false, List, [], Some, None, map, slice_get, Contains}
 use Rattle.std.specs.List.Sorted.{IsStrictlyIncreasing}
 use Rattle.machine_spec.specs.Machine.{IsAtPlace}
 use Rattle.word_spec.specs.Texts.{split_lines}
@@ -17,13 +17,16 @@ use Rattle.machine_spec.specs.StateText.{Layout}
 use Rattle.bilv_spec.specs.Run.{Program}
 use Rattle.bilv_spec.specs.Answers.{IsReported}
 use Rattle.bilv_spec.specs.Replays.{replay_answer}
-use Rattle.frame_spec.specs.Frames.{Contract}
+use Rattle.frame_spec.specs.Frames.{Contract, Frame}
+use Rattle.frame_spec.specs.FramePoints.{Point}
 use Rattle.frame_spec.specs.FrameReports.{last_rank}
+use Rattle.frame_spec.specs.FrameScripts.{AreFrameNumbered, frame_symbols_of}
 use Rattle.frame_spec.specs.FrameVerdict.{Whole}
 use Rattle.frame_spec.specs.Theorems.{IsOfNow}
 use Rattle.notes_spec.specs.Scopes.{Plain}
 use Rattle.notes_spec.specs.Verified.{AfterNotes, IsFound}
 use Rattle.answer_spec.specs.FrameAnswers.{invariant_words, contract_words, has_line, dialect_for, IsFrameFound, AfterFrames, IsFrameReplayed, IsVerifiedWhole, IsReplayedWhole, IsCertifiedWhole, IsScriptWhole, name_of, number_word, asked_rank}
+use Rattle.answer_spec.specs.FrameModels.{frame_declared}
 
 -- no line begins with the word of invariants or with one of contracts
 abbrev pub IsPlainText : List ℕ → Type 0
@@ -122,3 +125,12 @@ WholesAreFitted =
 abbrev pub FramesAreNamed : Type 0
 FramesAreNamed =
     (o : Options) (file text : List ℕ) (w : Whole) → IsFrameFound o file text w → (rank : ℕ) → rank ≤ last_rank w → rank_named w (name_of w rank) ≡ rank
+
+-- the symbols that are declared for the answer of an outside solver to be read are those that the scripts of the frame's questions declare
+abbrev pub DeclaredAreOfScripts : Type 0
+DeclaredAreOfScripts =
+    (f : Frame) (layout : Layout) (points : List Point) → map (λ d. d.name) (frame_declared f layout points) ≡ frame_symbols_of f layout points
+
+-- the points of a frame have one order in scripts
+abbrev pub OneFrameNumbering : Type 0
+OneFrameNumbering = (f : Frame) (k : ℕ) (xs ys : List Point) → AreFrameNumbered f k xs → AreFrameNumbered f k ys → xs ≡ ys

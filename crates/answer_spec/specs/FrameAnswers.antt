@@ -53,21 +53,29 @@ dialect_by has_invariant has_contract = Framed
 abbrev pub dialect_for : (text : List ℕ) → Dialect
 dialect_for text = dialect_by (has_line invariant_words text) (has_line contract_words text)
 
--- the file and the notes of a text, with their invariants and contracts, are this
-abbrev pub IsWhole : Options → (file text : List ℕ) → Whole → Type 0
-IsWhole o file text w =
-    (notes : FrameNotes) × (entry : ℕ) × IsFrameText (in_dialect (dialect_for text) (vocabulary_of o file)) text notes
+-- the file and the notes of a text in a dialect, with their invariants and contracts, are this
+abbrev pub IsWholeIn : Dialect → Options → (file text : List ℕ) → Whole → Type 0
+IsWholeIn d o file text w =
+    (notes : FrameNotes) × (entry : ℕ) × IsFrameText (in_dialect d (vocabulary_of o file)) text notes
     × IsFunctionAt (machine_of o file).narrow file notes.notes.entry entry × (w ≡ whole_of (machine_of o file) file notes entry)
 
--- what an accepted file and accepted notes are
-abbrev pub IsFrameFound : Options → (file text : List ℕ) → Whole → Type 0
-IsFrameFound o file text w = IsAccepted file × (length text ≤ notes_limit) × IsWhole o file text w
+abbrev pub IsWhole : Options → (file text : List ℕ) → Whole → Type 0
+IsWhole o file text w = IsWholeIn (dialect_for text) o file text w
 
--- Notes over an accepted file are refused, or have a function that is answered by what comes next.
-pub data AfterFrames (o : Options) (file text : List ℕ) (Next : Whole → Answer → Type 0) (a : Answer) : Type 0 where
-  frames_refused : (written : List ℕ) → AreNotesRefusedIn (dialect_for text) o file text written → a ≡ plain_answer 5 written →
-      AfterFrames o file text Next a
-  frames_found : (w : Whole) → IsFrameFound o file text w → Next w a → AfterFrames o file text Next a
+-- what an accepted file and accepted notes in a dialect are
+abbrev pub IsFrameFoundIn : Dialect → Options → (file text : List ℕ) → Whole → Type 0
+IsFrameFoundIn d o file text w = IsAccepted file × (length text ≤ notes_limit) × IsWholeIn d o file text w
+
+abbrev pub IsFrameFound : Options → (file text : List ℕ) → Whole → Type 0
+IsFrameFound o file text w = IsFrameFoundIn (dialect_for text) o file text w
+
+-- Notes in a dialect over an accepted file are refused, or have a function that is answered by what comes next.
+pub data AfterFramesIn (d : Dialect) (o : Options) (file text : List ℕ) (Next : Whole → Answer → Type 0) (a : Answer) : Type 0 where
+  frames_refused : (written : List ℕ) → AreNotesRefusedIn d o file text written → a ≡ plain_answer 5 written → AfterFramesIn d o file text Next a
+  frames_found : (w : Whole) → IsFrameFoundIn d o file text w → Next w a → AfterFramesIn d o file text Next a
+
+abbrev pub AfterFrames : Options → (file text : List ℕ) → (Next : Whole → Answer → Type 0) → Answer → Type 0
+AfterFrames o file text = AfterFramesIn (dialect_for text) o file text
 
 -- what is due to notes without invariants, and to notes with one
 abbrev pub ByInvariants : (invariants : List ℕ) → (plain framed : Type 0) → Type 0

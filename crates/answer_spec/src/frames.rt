@@ -1,5 +1,5 @@
 //! Laws of answers to notes that may have invariants or contracts.
-ghost use Rattle.answer_spec.specs.FrameAnswerLaws.{CertifiedAsBefore, FrameIsNamed, FramesAreNamed, GraphedAsBefore, NoFrameNamed, OneWhole, ProgramsAreWhole, ReplayedAsBefore, ReplayedByFrames, ReplayedWithoutCalls, ScriptedAsBefore, UpgradedAsBefore, VerifiedAsBefore, WholesAreFitted};
+ghost use Rattle.answer_spec.specs.FrameAnswerLaws.{CertifiedAsBefore, DeclaredAreOfScripts, FrameIsNamed, FramesAreNamed, GraphedAsBefore, NoFrameNamed, OneFrameNumbering, OneWhole, ProgramsAreWhole, ReplayedAsBefore, ReplayedByFrames, ReplayedWithoutCalls, ScriptedAsBefore, UpgradedAsBefore, VerifiedAsBefore, WholesAreFitted};
 
 /// A text with neither invariants nor contracts is verified as where lines of both are unknown.
 pub fn verified_as_before()
@@ -69,4 +69,16 @@ pub fn wholes_are_fitted()
 /// The frame of a rank has the name by which reports call it.
 pub fn frames_are_named()
     ensures { FramesAreNamed }
+{}
+
+/// What an outside solver's answer may define is what the scripts of the frame declare.
+#[tactic(auto, using(crate::proofs::FrameDeclared::declared_are_of_scripts))]
+pub fn declared_are_of_scripts()
+    ensures { DeclaredAreOfScripts }
+{}
+
+/// A frame's points are numbered in one way.
+#[tactic(auto, using(crate::proofs::OneNumbering::one_numbering))]
+pub fn one_numbering()
+    ensures { OneFrameNumbering }
 {}
