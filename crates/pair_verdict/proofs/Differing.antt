@@ -24,7 +24,7 @@ use Rattle.pair_verdict.specs.declared.exits.Reached.{Reached}
 use Rattle.pair_verdict.specs.declared.verdicts.PairAnswered.TheVariants.{Sat}
 use Rattle.pair_verdict.proofs.LinesApart.{apart_is_differing}
 use Rattle.pair_verdict.proofs.Paired.{are_linked, are_paired, different_is_satisfiable, exits_differ, linked_is_satisfiable}
-use Rattle.pair_verdict.proofs.Refuted.{refuted_pair}
+use Rattle.pair_turns.proofs.Refuted.{refuted_pair}
 
 module _ (a b : Program) (lawful : HasLawfulRows a) (rows : HasLawfulRows b) (memory : ReadsMemory a) (reads : ReadsMemory b) (k : ℕ) (links : List Link) where
   -- no linked pair, where the question of the pair is refuted

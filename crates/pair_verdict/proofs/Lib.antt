@@ -5,6 +5,7 @@ pub mod CellsOfFrame
 pub mod Differing
 pub mod ExitRuns
 pub mod ExitSteps
+pub mod FewerTurns
 pub mod FormedFrames
 pub mod LawfulSides
 pub mod LinesApart
@@ -16,7 +17,6 @@ pub mod PairPoints
 pub mod Paired
 pub mod PlacedSides
 pub mod ReadingsAlike
-pub mod Refuted
 pub mod RoundOf
 pub mod RoundsTold
 pub mod SettledBy

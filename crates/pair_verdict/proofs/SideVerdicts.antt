@@ -17,7 +17,7 @@ use Rattle.verdict.specs.declared.verdicts.Exceeded.TheVariants.{Points, Size}
 use Rattle.verdict.specs.declared.verdicts.Verdict.{Verdict}
 use Rattle.verdict.specs.declared.verdicts.Verdict.TheVariants as verdict
 use Rattle.pair_verdict.specs.Settled.{IsSettled}
-use Rattle.pair_verdict.specs.Sides.{IsSideVerdict, IsVerdictOf, first_program, second_program}
+use Rattle.pair_verdict.specs.Sides.{HoldsWithin, IsSideVerdict, IsVerdictOf, first_program, second_program}
 use Rattle.pair_verdict.specs.Verdicts.{holding_of}
 use Rattle.pair_verdict.specs.declared.pairs.Pair.{Pair}
 use Rattle.pair_verdict.specs.declared.settling.Settled.TheVariants as settled
@@ -39,8 +39,8 @@ module _ (s : Sided) (b : Budget) (within : IsWithin (program_of_side s) (budget
 
 -- what a side came to
 module _ (s : Sided) (b : Budgets) (v : SideVerdict) (is : IsSideVerdict s b v) where
-  pub came_holds : (h : Holding) → v ≡ Holds h → HoldsBy (side_of s) b (holding_of h)
-  came_holds h e = subst (IsSideVerdict s b) e is
+  pub came_holds : (h : Holding) (turns : ℕ) → v ≡ Holds h turns → HoldsBy (side_of s) b (holding_of h) × HoldsWithin (program_of_side s) b turns
+  came_holds h turns e = subst (IsSideVerdict s b) e is
 
   pub came_other : (w : Verdict) → v ≡ Other w →
       IsOther (sides.report_of w) × IsRightReport (program_of_side s) (layout_of s.layout) b (sides.report_of w) (sides.evidence_of w)

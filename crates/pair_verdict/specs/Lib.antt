@@ -4,3 +4,4 @@ pub mod Sides
 pub mod StateWords
 pub mod PairRounds
 pub mod Settled
+pub mod FewerTurns

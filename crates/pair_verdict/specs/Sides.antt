@@ -3,6 +3,8 @@ use Rattle.std.specs.Prelude.{ℕ, ◌≡◌, ◌≤◌, ◌+◌, Bool, List, le
 use Rattle.word_spec.specs.State.{State}
 use Rattle.bilv_spec.specs.Run.{Program}
 use Rattle.bilv_spec.specs.Answers.{IsRightReport}
+use Rattle.bilv_spec.specs.Verdict as verdicts
+use Rattle.bilv_spec.specs.Verdict.{IsRight}
 use Rattle.call_spec.specs.Calls as calls
 use Rattle.machine_spec.specs.Endings as endings
 use Rattle.links_lang.specs.Views.{AreLinksOf, links_of}
@@ -56,9 +58,14 @@ abbrev pub AreTooMany : Pair → PointsFault → Type 0
 AreTooMany p (TooMany c) = HaveMore (first_program p) (second_program p) p.budget.now.unroll p.budget.now.points × (c ≡ p.budget.now.points + 1)
 AreTooMany p Memory = Unit {0}
 
+-- a function holds, also within a bound on backward transfers that is no greater than the budget's
+pub record HoldsWithin (p : Program) (b : calls.Budget) (turns : ℕ) : Type 0 where
+  pub few : turns ≤ b.unroll
+  pub holds : IsRight p turns verdicts.Holds
+
 -- a function holds, or there is another verdict that is neither of points nor of the price
 abbrev pub IsSideVerdict : Sided → calls.Budget → SideVerdict → Type 0
-IsSideVerdict s b (Holds h) = HoldsBy (side_of s) b (holding_of h)
+IsSideVerdict s b (Holds h turns) = HoldsBy (side_of s) b (holding_of h) × HoldsWithin (program_of_side s) b turns
 IsSideVerdict s b (Other v) =
     IsOther (sides.report_of v) × IsRightReport (program_of_side s) (layout_of s.layout) b (sides.report_of v) (sides.evidence_of v)
 

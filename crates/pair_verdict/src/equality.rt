@@ -6,12 +6,13 @@ ghost use Rattle.pair_sides.specs.Sides.{IsSided, side_of};
 ghost use Rattle.pair_spec.specs.Equals.{AreWithin, HoldsBy, IsRightPair};
 ghost use Rattle.verdict.specs.Verdicts.{budget_of};
 ghost use Rattle.pair_verdict.specs.Settled.{IsSettled};
-ghost use Rattle.pair_verdict.specs.Sides.{AreTooMany, AreUnrolled, IsPair, IsVerdictOf, first_program, second_program};
+ghost use Rattle.pair_verdict.specs.Sides.{AreTooMany, AreUnrolled, HoldsWithin, IsPair, IsVerdictOf, first_program, second_program};
 ghost use Rattle.pair_verdict.specs.Verdicts.{evidence_of, holding_of, report_of};
 
 use crate::pairs::{Both, Pair};
-use crate::settling::{Settled, settle};
+use crate::settling::Settled;
 use crate::sides::{SideVerdict, judge_side, unroll_side};
+use crate::smaller::settle_within;
 use crate::{Holding, PairVerdict};
 use links_lang::Link;
 use pair_price::pair_price;
@@ -81,22 +82,28 @@ fn with_holdings(settled: Settled, first: Holding, second: Holding) -> PairVerdi
     }
 }
 
-/// The verdict on two functions of which the first holds. The error is out of memory.
+/// The verdict on two functions of which the first holds, and no run of that makes more backward transfers than a number. The error is out of memory.
 fn judge_second(
     alloc: Global,
     pair: &Pair,
     both: &Both,
     first: Holding,
+    turns: u64,
 ) -> Result<PairVerdict, AllocError>
     requires pair { IsPair pair.now }
     requires unrolled { AreUnrolled pair.now both.now }
     requires within { AreWithin (first_program pair.now) (second_program pair.now) (links_of pair.now.links.now) (budget_of pair.now.budget.now) }
     requires first { HoldsBy (side_of pair.now.first.now) (budget_of pair.now.budget.now) (holding_of first) }
+    requires turns { HoldsWithin (first_program pair.now) (budget_of pair.now.budget.now) turns }
     ensures { IfOk result (IsVerdictOf pair.now) }
 {
     match judge_side(alloc, pair.second, pair.budget, &both.second)? {
-        SideVerdict::Holds(second) => {
-            let settled = settle(alloc, pair)?;
+        SideVerdict::Holds {
+            holding: second,
+            turns: second_turns,
+        } => {
+            let most = turns.max(second_turns);
+            let settled = settle_within(alloc, pair, both, most)?;
             Ok(with_holdings(settled, first, second))
         }
         SideVerdict::Other(verdict) => Ok(PairVerdict::Second(verdict)),
@@ -111,8 +118,11 @@ fn judge_first(alloc: Global, pair: &Pair, both: &Both) -> Result<PairVerdict, A
     ensures { IfOk result (IsVerdictOf pair.now) }
 {
     match judge_side(alloc, pair.first, pair.budget, &both.first)? {
-        SideVerdict::Holds(first) => {
-            let verdict = judge_second(alloc, pair, both, first)?;
+        SideVerdict::Holds {
+            holding: first,
+            turns,
+        } => {
+            let verdict = judge_second(alloc, pair, both, first, turns)?;
             Ok(verdict)
         }
         SideVerdict::Other(verdict) => Ok(PairVerdict::First(verdict)),

@@ -9,6 +9,7 @@ mod pairs;
 mod rounds;
 mod settling;
 mod sides;
+mod smaller;
 mod verdicts;
 
 pub use equality::equal;

@@ -7,8 +7,9 @@ ghost use Rattle.pair_sides.specs.Sides.{IsSided, machine_in, program_of_side};
 ghost use Rattle.pair_spec.specs.Links.{asking};
 ghost use Rattle.program_points.specs.Listed.{IsTooMany};
 ghost use Rattle.start_value.specs.Starts.{layout_of};
+ghost use Rattle.verdict.specs.FewerTurns.{IsJudged};
 ghost use Rattle.verdict.specs.Measures.{IsUnrolledOf};
-ghost use Rattle.verdict.specs.Verdicts.{IsVerdict, budget_of};
+ghost use Rattle.verdict.specs.Verdicts.{budget_of};
 ghost use Rattle.pair_verdict.specs.Sides.{IsSideVerdict};
 
 use crate::Holding;
@@ -24,12 +25,14 @@ use rv_lift::Rv32;
 use start_value::{Layout, Profile};
 use std::alloc::{AllocError, Global};
 use unroller::unroll_asking;
-use verdict::{Budget, Verdict, judge_unrolled, unroll_within};
+use verdict::{Budget, Judged, Verdict, judge_unrolled, unroll_within};
 
-/// What one of two functions comes to: it holds, or its verdict is another one.
+/// What one of two functions comes to.
 #[derive(Drop)]
 pub enum SideVerdict {
-    Holds(Holding),
+    /// It holds, and no run makes more backward transfers than this number, which is at most the budget's.
+    Holds { holding: Holding, turns: u64 },
+    /// Its verdict is another one.
     Other(Verdict),
 }
 
@@ -72,16 +75,16 @@ fn verdict_by<M: Machine>(
     side: &Sided,
     budget: &Budget,
     unrolled: &Unrolled,
-) -> Result<Verdict, AllocError>
+) -> Result<Judged, AllocError>
     requires machine { machine_in side.now.layout ≡ M.machine }
     requires form { layout_of side.now.layout ≡ M.form }
     requires sided { IsSided side.now }
     requires unrolled { IsUnrolledOf (program_of_side side.now) (layout_of side.now.layout) (budget_of budget.now) unrolled.now }
-    ensures { IfOk result (λ v. IsVerdict (program_of_side side.now) (layout_of side.now.layout) budget.now v) }
+    ensures { IfOk result (λ j. IsJudged (program_of_side side.now) (layout_of side.now.layout) budget.now j) }
 {
     let program = side.program::<M>();
-    let verdict = judge_unrolled::<M>(alloc, &program, budget, unrolled)?;
-    Ok(verdict)
+    let judged = judge_unrolled::<M>(alloc, &program, budget, unrolled)?;
+    Ok(judged)
 }
 
 /// The verdict on a side by its unrolled program.
@@ -90,10 +93,10 @@ fn verdict_of(
     side: &Sided,
     budget: &Budget,
     unrolled: &Unrolled,
-) -> Result<Verdict, AllocError>
+) -> Result<Judged, AllocError>
     requires sided { IsSided side.now }
     requires unrolled { IsUnrolledOf (program_of_side side.now) (layout_of side.now.layout) (budget_of budget.now) unrolled.now }
-    ensures { IfOk result (λ v. IsVerdict (program_of_side side.now) (layout_of side.now.layout) budget.now v) }
+    ensures { IfOk result (λ j. IsJudged (program_of_side side.now) (layout_of side.now.layout) budget.now j) }
 {
     on_machine!(side.layout, verdict_by(alloc, side, budget, unrolled))
 }
@@ -110,12 +113,13 @@ pub fn judge_side(
     requires within { IsWithin (program_of_side side.now) (budget_of budget.now) }
     ensures { IfOk result (IsSideVerdict side.now (budget_of budget.now)) }
 {
-    match verdict_of(alloc, side, budget, unrolled)? {
-        Verdict::Holds { start, fail, turn } => Ok(SideVerdict::Holds(Holding {
-            start,
-            fail,
-            turn,
-        })),
+    let judged = verdict_of(alloc, side, budget, unrolled)?;
+    let turns = judged.turns;
+    match judged.verdict {
+        Verdict::Holds { start, fail, turn } => Ok(SideVerdict::Holds {
+            holding: Holding { start, fail, turn },
+            turns,
+        }),
         Verdict::Exceeded(_) => unreachable!(),
         other => Ok(SideVerdict::Other(other)),
     }

@@ -7,7 +7,7 @@ use Rattle.bilv_spec.specs.Verdict.{IsStart, RunExits, RunFails, RunTurns, Verdi
 use Rattle.bilv_spec.specs.Questions.{Reading, by_file, point_of, read_on, read_run, ReadingFails, ReadingTurns, EndsBy, IsTrueOver}
 use Rattle.bilv_spec.specs.Evidence.{IsDue}
 use Rattle.call_spec.specs.Calls.{Question, EntryQuestion, FailQuestion, TurnQuestion}
-use Rattle.turn_laws.specs.Bounds.{HasTurned, RunsGoAlike, ReadingsGoAlike, HasEnds, EndsRise, AreAlike, QuestionsRise, VerdictsRise, DuesRise}
+use Rattle.turn_laws.specs.Bounds.{HasTurned, RunsGoAlike, ReadingsGoAlike, HasEnds, EndsRise, AreAlike, QuestionsRise, VerdictsRise, HoldsFalls, DuesRise}
 
 -- a run within the bound k, and where the run within a greater bound is then
 abbrev IsAlike : ℕ → Run → Run → Type 0
@@ -40,7 +40,7 @@ of_alike k (Failed e at n) s h = inr h
 of_alike k (Turned at n) s h = inl tt
 
 -- a run that has turned, by its last step
-turned : (r : Run) → HasTurned r → (at n : ℕ) × (r ≡ Turned at n)
+pub turned : (r : Run) → HasTurned r → (at n : ℕ) × (r ≡ Turned at n)
 turned (Going turns n c) h = absurd h
 turned (Exited at n) h = absurd h
 turned (Failed e at n) h = absurd h
@@ -80,6 +80,12 @@ module _ (p : Program) (k m : ℕ) (h : k ≤ m) where
     fails_fall (steps, at, n, v, is) = elim (go_alike steps) [
       | inl t ↦ inr (let q = turned (run p k start steps) t in (steps, q.0, q.1, q.2))
       | inr e ↦ inl (steps, at, n, v, sym e ∙ is)
+    ]
+
+    exits_fall : RunExits p m start → RunExits p k start ⊎ RunTurns p k start
+    exits_fall (steps, at, n, is) = elim (go_alike steps) [
+      | inl t ↦ inr (let q = turned (run p k start steps) t in (steps, q.0, q.1, q.2))
+      | inr e ↦ inl (steps, at, n, sym e ∙ is)
     ]
 
     pub ends : HasEnds p k m start
@@ -143,6 +149,10 @@ module _ (p : Program) (k m : ℕ) (h : k ≤ m) where
   right Unroll other is = absurd (other refl)
   right Holds other (entered, all) = (entered, λ start is. exits_rise start (all start is))
 
+  pub holds : ((start : Start) → IsStart p start → ¬ RunTurns p k start) → IsRight p m Holds → IsRight p k Holds
+  holds none (entered, all) =
+      (entered, λ start is. elim (exits_fall start (all start is)) [ inl e ↦ e | inr t ↦ absurd (none start is t) ])
+
   pub due : (question : Question) → (question ≡ TurnQuestion → (start : Start) → IsStart p start → ¬ RunTurns p k start) → IsDue p k question →
       IsDue p m question
   due EntryQuestion none is = tt
@@ -164,6 +174,9 @@ questions_rise p asked k m h r = over p k m h r asked
 
 pub verdicts_rise : VerdictsRise
 verdicts_rise p k m h v other is = right p k m h v other is
+
+pub holds_falls : HoldsFalls
+holds_falls p k m h none is = holds p k m h none is
 
 pub dues_rise : DuesRise
 dues_rise p k m h question none is = due p k m h question none is

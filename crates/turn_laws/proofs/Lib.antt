@@ -1,3 +1,4 @@
 pub mod Alike
+pub mod Points
 pub mod Prices
 pub mod Raising

@@ -16,10 +16,10 @@ points_rise p k m h _ first = first
 points_rise p k m h _ (next {point} {stack} {a} is edge few) = next (points_rise p k m h point is) edge (omega (arith, few, h))
 
 module _ (p : Program) (k m : ℕ) (h : k ≤ m) (xs ys : List Point) (a : ArePoints p k xs) (b : ArePoints p m ys) where
-  within : (f : Point → ℕ) → sum_by f xs ≤ sum_by f ys
+  pub within : (f : Point → ℕ) → sum_by f xs ≤ sum_by f ys
   within f = sum_within f xs ys a.once (λ y has. b.all y (points_rise p k m h y (a.only y has)))
 
-  lines_within : (f : Expr → ℕ) (before : List Expr) → sum_by f (before ++ flat_map (evaluated p) xs) ≤ sum_by f (before ++ flat_map (evaluated p) ys)
+  pub lines_within : (f : Expr → ℕ) (before : List Expr) → sum_by f (before ++ flat_map (evaluated p) xs) ≤ sum_by f (before ++ flat_map (evaluated p) ys)
   lines_within f before =
       let e = sum_by-append f before (flat_map (evaluated p) xs) in
       let g = sum_by-append f before (flat_map (evaluated p) ys) in
@@ -41,7 +41,7 @@ parts_rise r e n l s r' e' n' l' s' known runs a b c d f =
 
 -- the price of a list of points rises with the points
 module _ (p : Program) (k m : ℕ) (h : k ≤ m) (xs ys : List Point) (a : ArePoints p k xs) (b : ArePoints p m ys) (known runs : ℕ) where
-  prices_within : price_of p xs known runs ≤ price_of p ys known runs
+  pub prices_within : price_of p xs known runs ≤ price_of p ys known runs
   prices_within =
       let requires : List Expr = map (λ l. l.says) p.notes.requires in
       let loads = within p k m h xs ys a b (λ point. loads_at p point.at (file_row p point.at)) in

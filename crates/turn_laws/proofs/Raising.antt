@@ -80,11 +80,11 @@ lines_more n m h k line (l ∷ ls) e =
     ap (λ z. after_judge z line (first_refusal m (known_after k l) (line + 1) ls)) (judged_more n m h k l q.0)
     ∙ lines_more n m h (known_after k l) (line + 1) ls q.1
 
-refutes_more : (n m : ℕ) → n ≤ m → (cs : List Clause) (ls : List LogLine) → IsRefutation n cs ls → IsRefutation m cs ls
+pub refutes_more : (n m : ℕ) → n ≤ m → (cs : List Clause) (ls : List LogLine) → IsRefutation n cs ls → IsRefutation m cs ls
 refutes_more n m h cs ls e = lines_more n m h (known_at_start cs) 1 ls e
 
 -- no base reads
-abbrev no_cells : Cells
+abbrev pub no_cells : Cells
 no_cells = record { nodes = []; addresses = []; agrees = []; asked = []; root = 0 }
 
 module _ (p : Program) (k m : ℕ) (h : k ≤ m) where
@@ -96,7 +96,7 @@ module _ (p : Program) (k m : ℕ) (h : k ≤ m) where
   input_rises loads more (OfByte read i) word is = absurd (let e : true ≡ false = word in cc)
 
   -- so there are no more of them
-  inputs_rise : (loads more : ℕ) (xs ys : List Input) → AreInputs p k loads xs → AreInputs p m more ys → length xs ≤ length (filter is_of_byte xs) + length ys
+  pub inputs_rise : (loads more : ℕ) (xs ys : List Input) → AreInputs p k loads xs → AreInputs p m more ys → length xs ≤ length (filter is_of_byte xs) + length ys
   inputs_rise loads more xs ys a b =
       let most = no_longer (filter is_of_byte xs ++ ys) xs inside a.once (OfFlag 0) in
       let long = length-append (filter is_of_byte xs) ys in omega (arith, most, long)

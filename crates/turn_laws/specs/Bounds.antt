@@ -2,7 +2,7 @@
 use Rattle.std.specs.Prelude.{ℕ, ◌≡◌, ◌≢◌, ◌≤◌, ◌⊎◌, ◌↔◌, Bool}
 use Rattle.machine_spec.specs.Endings.{Start}
 use Rattle.bilv_spec.specs.Run.{Program, Run, Going, Exited, Failed, Turned, run}
-use Rattle.bilv_spec.specs.Verdict.{IsStart, RunExits, RunFails, RunTurns, Verdict, Unroll, IsRight}
+use Rattle.bilv_spec.specs.Verdict.{IsStart, RunExits, RunFails, RunTurns, Verdict, Holds, Unroll, IsRight}
 use Rattle.bilv_spec.specs.Questions.{Reading, read_run, IsTrueOver}
 use Rattle.bilv_spec.specs.Evidence.{IsDue}
 use Rattle.call_spec.specs.Calls.{Question, EntryQuestion, FailQuestion, TurnQuestion}
@@ -50,6 +50,10 @@ QuestionsRise = (p : Program) (asked : ℕ → Bool) (k m : ℕ) → k ≤ m →
 -- each verdict but the one that the bound is too small is right within every greater bound
 abbrev pub VerdictsRise : Type 0
 VerdictsRise = (p : Program) (k m : ℕ) → k ≤ m → (v : Verdict) → v ≢ Unroll → IsRight p k v → IsRight p m v
+
+-- and that all runs return without an event is right within each smaller bound that no run exceeds
+abbrev pub HoldsFalls : Type 0
+HoldsFalls = (p : Program) (k m : ℕ) → k ≤ m → ((start : Start) → IsStart p start → ¬ RunTurns p k start) → IsRight p m Holds → IsRight p k Holds
 
 -- so a question that is due is due within every greater bound; the turn question, where no run makes one backward transfer too many
 abbrev pub DuesRise : Type 0

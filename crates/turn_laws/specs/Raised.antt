@@ -1,8 +1,8 @@
 -- Refutations of questions within one bound on backward transfers as refutations of those within a greater one.
-use Rattle.std.specs.Prelude.{ℕ, ◌≡◌, ◌≤◌, max, Bool, true}
+use Rattle.std.specs.Prelude.{ℕ, ◌≡◌, ◌≤◌, nat_le, max, Bool, true, List, filter}
 use Rattle.clause_spec.specs.Refutation.{Proof}
 use Rattle.bilv_spec.specs.Run.{Program}
-use Rattle.bilv_spec.specs.Points.{Point, IsPoint, IsPrice}
+use Rattle.bilv_spec.specs.Points.{Point, IsPoint, ArePoints, IsPrice}
 use Rattle.bilv_spec.specs.Questions.{Reading, IsTrueOver}
 use Rattle.bilv_spec.specs.Evidence.{Refutes}
 use Rattle.call_spec.specs.Calls.{Question, EntryQuestion, FailQuestion, TurnQuestion}
@@ -14,6 +14,10 @@ use Rattle.walk_laws.specs.Layers.{IsFitting}
 -- the points within a bound are points within a greater one
 abbrev pub PointsRise : Type 0
 PointsRise = (p : Program) (k m : ℕ) → k ≤ m → (point : Point) → IsPoint p k point → IsPoint p m point
+
+-- and those of them that are behind at most so many backward transfers are the points within the smaller bound
+abbrev pub PointsFall : Type 0
+PointsFall = (p : Program) (k m : ℕ) → k ≤ m → (points : List Point) → ArePoints p m points → ArePoints p k (filter (λ q. nat_le q.turns k) points)
 
 -- so the price rises with the bound
 abbrev pub PricesRise : Type 0

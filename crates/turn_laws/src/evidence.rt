@@ -1,10 +1,16 @@
 //! Laws of prices and refutations under two bounds on backward transfers.
-ghost use Rattle.turn_laws.specs.Raised.{BothRise, PointsRise, PricesRise, RefutationsRise};
+ghost use Rattle.turn_laws.specs.Raised.{BothRise, PointsFall, PointsRise, PricesRise, RefutationsRise};
 
 /// The points within a bound are points within a greater one.
 #[tactic(auto, using(crate::proofs::Prices::points_rise))]
 pub fn points_rise()
     ensures { PointsRise }
+{}
+
+/// The points within a greater bound that are behind no more backward transfers than a smaller one are the points within that.
+#[tactic(auto, using(crate::proofs::Points::points_fall))]
+pub fn points_fall()
+    ensures { PointsFall }
 {}
 
 /// The price for a bound is at most that for a greater one.

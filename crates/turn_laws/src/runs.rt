@@ -1,5 +1,5 @@
 //! Laws of runs, questions and verdicts under two bounds on backward transfers.
-ghost use Rattle.turn_laws.specs.Bounds.{DuesRise, EndsRise, QuestionsRise, ReadingsGoAlike, RunsGoAlike, VerdictsRise};
+ghost use Rattle.turn_laws.specs.Bounds.{DuesRise, EndsRise, HoldsFalls, QuestionsRise, ReadingsGoAlike, RunsGoAlike, VerdictsRise};
 
 /// As long as the run within a bound has not turned once too often, the run within a greater bound is the same.
 #[tactic(auto, using(crate::proofs::Alike::runs_go_alike))]
@@ -30,6 +30,12 @@ pub fn questions_rise()
 #[tactic(auto, using(crate::proofs::Alike::verdicts_rise))]
 pub fn verdicts_rise()
     ensures { VerdictsRise }
+{}
+
+/// That all runs return without an event is right within each smaller bound that no run exceeds.
+#[tactic(auto, using(crate::proofs::Alike::holds_falls))]
+pub fn holds_falls()
+    ensures { HoldsFalls }
 {}
 
 /// A question that is due within a bound is due within a greater one, the turn question where no run turns too often within the smaller.

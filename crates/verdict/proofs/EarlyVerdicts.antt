@@ -9,13 +9,18 @@ use Rattle.bilv_spec.specs.Run.{Program}
 use Rattle.bilv_spec.specs.PointLaws.{ReadsMemory}
 use Rattle.bilv_spec.specs.Answers.{IsWithin, start_in}
 use Rattle.bilv_spec.specs.Evidence.{Refutes}
+use Rattle.bilv_spec.specs.Verdict as verdicts
+use Rattle.bilv_spec.specs.Verdict.{IsRight, IsStart, RunTurns}
+use Rattle.bilv_spec.proofs.Deciding.{questions_are_of_runs}
+use Rattle.bilv_spec.proofs.RefutedQuestions.{refuted_is_false}
 use Rattle.call_spec.specs.Calls.{EntryQuestion, FailQuestion, TurnQuestion, Question}
+use Rattle.machine_spec.specs.Endings as endings
 use Rattle.machine_spec.specs.StateText.{Layout}
 use Rattle.walk_spec.specs.Unrolled.{UnrolledProgram}
 use Rattle.term_spec.specs.WalkQuestions.{is_asked}
 use Rattle.term_spec.specs.ClauseForm.{first_byte}
 use Rattle.turn_laws.specs.Raised.{over_variables}
-use Rattle.turn_laws.proofs.Alike.{fails_rise}
+use Rattle.turn_laws.proofs.Alike.{fails_rise, holds_falls}
 use Rattle.turn_laws.proofs.Raising.{both_rise, rises}
 use Rattle.cnf_form.specs.Views.{proof_of}
 use Rattle.cnf_form.specs.declared.form.Proof.{Proof}
@@ -23,12 +28,18 @@ use Rattle.question_form.specs.Views.{unrolled_of}
 use Rattle.question_form.specs.declared.unrolled.Unrolled.{Unrolled}
 use Rattle.start_value.specs.Starts.{written_of}
 use Rattle.start_value.specs.declared.start.Start.{Start}
-use Rattle.verdict.specs.FewerTurns.{IsSmaller}
+use Rattle.verdict.specs.FewerTurns.{AreNoTurnsBy, IsEnough, IsJudged, IsSettledBy, IsSmaller}
 use Rattle.verdict.specs.Grounds.{Answers, AnswersOver, IsAnsweredOver, IsGround, IsShownBy}
 use Rattle.verdict.specs.Measures.{IsUnrolledOf}
 use Rattle.verdict.specs.Rounds.{IsDecided}
 use Rattle.verdict.specs.Verdicts.{IsVerdict, budget_of}
 use Rattle.verdict.specs.declared.deciding.Decided.{Decided}
+use Rattle.verdict.specs.declared.early.Early.{Early}
+use Rattle.verdict.specs.declared.early.Early.TheVariants as early
+use Rattle.verdict.specs.declared.early.NoTurns.{NoTurns}
+use Rattle.verdict.specs.declared.early.NoTurns.TheVariants as none
+use Rattle.verdict.specs.declared.verdicts.Judged.{Judged}
+use Rattle.verdict.specs.declared.verdicts.Verdict.{Verdict}
 use Rattle.verdict.specs.declared.verdicts.Answered.{Answered}
 use Rattle.verdict.specs.declared.verdicts.Answered.TheVariants.{Sat, Refuted}
 use Rattle.call_form.specs.declared.budget.Budget.{Budget}
@@ -66,6 +77,31 @@ over u question added conflicts a c h e p k layout reads g =
 pub refuted_asked : (u : UnrolledProgram) (question : Question) (conflicts : ℕ) (first : List ℕ) (d : Decided) (t : Proof) →
     IsDecided u question conflicts first d → d.answered ≡ Refuted t → AnswersOver u question d.asked.items conflicts (Refuted t)
 refuted_asked u question conflicts first d t h e = subst (AnswersOver u question d.asked.items conflicts) e h.answers
+
+-- where the turn question is refuted, no run makes more backward transfers
+pub enough : (p : Program) → ReadsMemory p → (layout : Layout) (u : UnrolledProgram) (asked : List ℕ) (conflicts : ℕ) (t : Proof) →
+    AnswersOver u TurnQuestion asked conflicts (Refuted t) → IsEnough p layout u
+enough p reads layout u asked conflicts t h k ground start is turns =
+    refuted_is_false p k TurnQuestion (proof_of t) (h p k layout reads ground).refutes
+    ((questions_are_of_runs p ground.lawful reads k TurnQuestion).1 (start, is, turns))
+
+-- whatever else the questions say
+pub none_by : (Enough : Type 0) → Enough → (n : NoTurns) → AreNoTurnsBy Enough n
+none_by Enough h (none.Refuted fail turn) = h
+none_by Enough h (none.Fails start) = h
+none_by Enough h none.Turns = tt
+none_by Enough h none.Spent = tt
+
+pub settled_by : (Enough Less : Type 0) → (Enough → Less) → (e : Early) → IsSettledBy Enough e → IsSettledBy Less e
+settled_by Enough Less f (early.Settled v) h = f h
+settled_by Enough Less f early.Turns h = tt
+settled_by Enough Less f early.Open h = tt
+
+-- the verdict that a smaller bound settles
+pub early_judged : (p : Program) (layout : Layout) (b : Budget) (turns : ℕ) (v : Verdict) → IsVerdict p layout b v → turns ≤ b.unroll →
+    ((start : endings.Start) → IsStart p start → ¬ RunTurns p turns start) → IsJudged p layout b (record { verdict = v; turns = turns })
+early_judged p layout b turns v is few none =
+    record { verdict = is; few = few; holds = holds_falls p turns b.unroll few none }
 
 -- so few points that inputs can be counted
 pub few_points : (p : Program) (layout : Layout) (b : Budget) (whole : Unrolled) → IsUnrolledOf p layout (budget_of b) whole → b.points ≤ 16777216 →

@@ -3,20 +3,22 @@ ghost use Rattle.std.specs.Prelude.{◌≡◌, ◌≤◌, IfOk, IfSome};
 ghost use Rattle.call_spec.specs.Calls.{FailQuestion, TurnQuestion};
 ghost use Rattle.bilv_spec.specs.Evidence.{Refutes};
 ghost use Rattle.bilv_spec.specs.Answers.{IsWithin};
+ghost use Rattle.bilv_spec.specs.Verdict.{IsStart, RunTurns};
+ghost use Rattle.machine_spec.specs.Endings as endings;
 ghost use Rattle.cnf_form.specs.Views.{proof_of};
 ghost use Rattle.question_form.specs.Views.{unrolled_of};
 ghost use Rattle.turn_laws.specs.Raised.{over_variables};
 ghost use Rattle.program_value.specs.Programs.{program_of};
 ghost use Rattle.verdict.specs.Grounds.{AnswersOver};
-ghost use Rattle.verdict.specs.FewerTurns.{AreNoTurns, IsEarly, IsSmaller};
+ghost use Rattle.verdict.specs.FewerTurns.{AreNoTurns, AreNoTurnsBy, IsEarly, IsEnough, IsJudged, IsSettledBy, IsSmaller};
 ghost use Rattle.verdict.specs.Measures.{IsMeasurable, IsUnrolledOf};
 ghost use Rattle.verdict.specs.Rounds.{AreAdded, IsDecidable};
-ghost use Rattle.verdict.specs.Verdicts.{IsVerdict, budget_of};
+ghost use Rattle.verdict.specs.Verdicts.{budget_of};
 
 use crate::deciding::{Decided, decide, decide_from};
 use crate::measuring::unroll_within;
 use crate::shown::failing;
-use crate::{Answered, Budget, Verdict};
+use crate::{Answered, Budget, Judged, Verdict};
 use bit_blast::free_inputs;
 use cnf_form::{Cnf, Proof};
 use machine_law::Machine;
@@ -52,7 +54,7 @@ enum Early {
 }
 
 /// The proof over at least so many variables.
-fn over_variables(proof: Proof, least: u64) -> Proof
+pub fn over_variables(proof: Proof, least: u64) -> Proof
     ensures { proof_of result ≡ over_variables least (proof_of proof) }
 {
     let Proof { clauses, log } = proof;
@@ -114,7 +116,8 @@ fn ask_turns<M: Machine>(
     requires whole { IsUnrolledOf (program_of program.now) M.form (budget_of budget.now) whole.now }
     requires smaller { IsSmaller (program_of program.now) budget.now.unroll M.form (unrolled_of passive.now.unrolled.now) }
     requires decidable { IsDecidable passive.now }
-    ensures { IfOk result (AreNoTurns (program_of program.now) budget.now.unroll M.form) }
+    ensures none { IfOk result (AreNoTurns (program_of program.now) budget.now.unroll M.form) }
+    ensures enough { IfOk result (AreNoTurnsBy (IsEnough (program_of program.now) M.form (unrolled_of passive.now.unrolled.now))) }
 {
     let none = Vec::new(alloc);
     let Decided { answered, asked } = decide_from(
@@ -175,7 +178,8 @@ fn judge_passive<M: Machine>(
     requires whole { IsUnrolledOf (program_of program.now) M.form (budget_of budget.now) whole.now }
     requires smaller { IsSmaller (program_of program.now) budget.now.unroll M.form (unrolled_of passive.now.unrolled.now) }
     requires decidable { IsDecidable passive.now }
-    ensures { IfOk result (IsEarly (program_of program.now) M.form budget.now) }
+    ensures early { IfOk result (IsEarly (program_of program.now) M.form budget.now) }
+    ensures enough { IfOk result (IsSettledBy (IsEnough (program_of program.now) M.form (unrolled_of passive.now.unrolled.now))) }
 {
     match ask_turns::<M>(alloc, program, budget, whole, passive)? {
         NoTurns::Refuted { fail, turn } => {
@@ -203,7 +207,8 @@ fn judge_smaller<M: Machine>(
     requires whole { IsUnrolledOf (program_of program.now) M.form (budget_of budget.now) whole.now }
     requires measurable { IsMeasurable unrolled.now }
     requires smaller { IsSmaller (program_of program.now) budget.now.unroll M.form (unrolled_of unrolled.now) }
-    ensures { IfOk result (IsEarly (program_of program.now) M.form budget.now) }
+    ensures early { IfOk result (IsEarly (program_of program.now) M.form budget.now) }
+    ensures enough { IfOk result (IsSettledBy (IsEnough (program_of program.now) M.form (unrolled_of unrolled.now))) }
 {
     let passive = passive(alloc, unrolled)?;
     let early = judge_passive::<M>(alloc, program, budget, whole, &passive)?;
@@ -221,7 +226,8 @@ fn judge_within<M: Machine>(
     requires within { IsWithin (program_of program.now) (budget_of budget.now) }
     requires whole { IsUnrolledOf (program_of program.now) M.form (budget_of budget.now) whole.now }
     requires turns { turns ≤ budget.now.unroll }
-    ensures { IfOk result (IsEarly (program_of program.now) M.form budget.now) }
+    ensures early { IfOk result (IsEarly (program_of program.now) M.form budget.now) }
+    ensures enough { IfOk result (IsSettledBy ((start : endings.Start) → IsStart (program_of program.now) start → ¬ RunTurns (program_of program.now) turns start)) }
 {
     let smaller = budget.with_unroll(turns);
     match unroll_within::<M>(alloc, program, &smaller) {
@@ -251,16 +257,16 @@ pub fn judge_early<M: Machine>(
     program: &Program<M>,
     budget: &Budget,
     whole: &Unrolled,
-) -> Result<Option<Verdict>, AllocError>
+) -> Result<Option<Judged>, AllocError>
     requires within { IsWithin (program_of program.now) (budget_of budget.now) }
     requires whole { IsUnrolledOf (program_of program.now) M.form (budget_of budget.now) whole.now }
-    ensures { IfOk result (λ o. IfSome o (IsVerdict (program_of program.now) M.form budget.now)) }
+    ensures { IfOk result (λ o. IfSome o (IsJudged (program_of program.now) M.form budget.now)) }
 {
     let most = most_turns(whole).min(budget.unroll);
     let mut turns: u64 = 1;
     while turns < most {
         match judge_within::<M>(alloc, program, budget, whole, turns)? {
-            Early::Settled(verdict) => return Ok(Some(verdict)),
+            Early::Settled(verdict) => return Ok(Some(Judged { verdict, turns })),
             Early::Turns => turns *= 2,
             Early::Open => return Ok(None),
         }

@@ -57,6 +57,13 @@ pub enum Verdict {
     },
 }
 
+/// A verdict, and a number of backward transfers that no run exceeds where the verdict is that the program holds. It is at most the budget's.
+#[derive(Drop)]
+pub struct Judged {
+    pub verdict: Verdict,
+    pub turns: u64,
+}
+
 /// What the command that certifies a question comes to.
 #[derive(Drop)]
 pub enum Certified {

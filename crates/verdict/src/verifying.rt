@@ -3,6 +3,7 @@ ghost use Rattle.std.specs.Prelude.{IfOk};
 ghost use Rattle.bilv_spec.specs.Answers.{IsWithin};
 ghost use Rattle.question_form.specs.Views.{unrolled_of};
 ghost use Rattle.program_value.specs.Programs.{program_of};
+ghost use Rattle.verdict.specs.FewerTurns.{IsJudged};
 ghost use Rattle.verdict.specs.Grounds.{IsGround};
 ghost use Rattle.verdict.specs.Measures.{IsUnrolledOf};
 ghost use Rattle.verdict.specs.Rounds.{IsDecidable};
@@ -12,7 +13,7 @@ use crate::deciding::decide;
 use crate::early::judge_early;
 use crate::measuring::{Weighed, unroll_within, weigh};
 use crate::shown::{failing, turning};
-use crate::{Answered, Budget, Exceeded, Verdict};
+use crate::{Answered, Budget, Exceeded, Judged, Verdict};
 use machine_law::Machine;
 use passify::passive;
 use program_points::PointsFault;
@@ -70,28 +71,33 @@ fn judge<M: Machine>(
 }
 
 /// The verdict by an unrolled program: that its price is above the budget, or what the three questions come to, within a smaller bound where that settles them.
+/// Where the program holds, no run makes more backward transfers than the number with the verdict.
 pub fn judge_unrolled<M: Machine>(
     alloc: Global,
     program: &Program<M>,
     budget: &Budget,
     unrolled: &Unrolled,
-) -> Result<Verdict, AllocError>
+) -> Result<Judged, AllocError>
     requires unrolled { IsUnrolledOf (program_of program.now) M.form (budget_of budget.now) unrolled.now }
-    ensures { IfOk result (λ v. IsVerdict (program_of program.now) M.form budget.now v) }
+    ensures { IfOk result (λ j. IsJudged (program_of program.now) M.form budget.now j) }
 {
+    let turns = budget.unroll;
     let price = match weigh(budget, unrolled)? {
-        Weighed::Above(price) => return Ok(Verdict::Exceeded(Exceeded::Size { price })),
+        Weighed::Above(price) => {
+            let verdict = Verdict::Exceeded(Exceeded::Size { price });
+            return Ok(Judged { verdict, turns });
+        }
         Weighed::Within(price) => price,
     };
     if price >= DEAR {
         let early = judge_early::<M>(alloc, program, budget, unrolled)?;
-        if let Some(verdict) = early {
-            return Ok(verdict);
+        if let Some(judged) = early {
+            return Ok(judged);
         }
     }
     let passive = passive(alloc, unrolled)?;
     let verdict = judge::<M>(alloc, program, budget, &passive)?;
-    Ok(verdict)
+    Ok(Judged { verdict, turns })
 }
 
 /// The verdict on a program within the budgets, with what shows it: first that there are more points than the
@@ -106,8 +112,8 @@ pub fn verify<'a, M: Machine>(
 {
     match unroll_within::<M>(alloc, program, budget) {
         Ok(unrolled) => {
-            let verdict = judge_unrolled::<M>(alloc, program, budget, &unrolled)?;
-            Ok(verdict)
+            let judged = judge_unrolled::<M>(alloc, program, budget, &unrolled)?;
+            Ok(judged.verdict)
         }
         Err(PointsFault::TooMany { count }) => Ok(Verdict::Exceeded(Exceeded::Points { count })),
         Err(PointsFault::Memory) => Err(AllocError),

@@ -13,7 +13,12 @@ judge_side-requires-clause-within c =
 pub judge_second-requires-clause-first : goal.judge_second-requires-clause-first
 judge_second-requires-clause-first c =
     let p = c.args.pair.now in
-    came_holds p.first.now (budget_of p.budget.now) c.in_ok-first.field-0 c.in_ok-first.ensures c.in-Holds.first c.in-Holds.is
+    (came_holds p.first.now (budget_of p.budget.now) c.in_ok-first.field-0 c.in_ok-first.ensures c.in-Holds.first c.in-Holds.turns c.in-Holds.is).0
+
+pub judge_second-requires-clause-turns : goal.judge_second-requires-clause-turns
+judge_second-requires-clause-turns c =
+    let p = c.args.pair.now in
+    (came_holds p.first.now (budget_of p.budget.now) c.in_ok-first.field-0 c.in_ok-first.ensures c.in-Holds.first c.in-Holds.turns c.in-Holds.is).1
 
 pub returns-in-Other : goal.returns-in-Other
 returns-in-Other c = first_verdict c.args.pair.now c.requires.within c.in_ok-first.field-0 c.in_ok-first.ensures c.in-Other.verdict c.in-Other.is

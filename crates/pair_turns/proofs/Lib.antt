@@ -1,0 +1,4 @@
+pub mod PairPrices
+pub mod PairsAlike
+pub mod PairsRaising
+pub mod Refuted

@@ -1,0 +1,2 @@
+pub mod PairBounds
+pub mod PairsRaised
