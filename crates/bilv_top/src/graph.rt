@@ -1,5 +1,5 @@
 //! The answer that prints a flow graph.
-ghost use Rattle.std.specs.Prelude.{IfOk};
+ghost use Rattle.std.specs.Prelude.{◌≡◌, [], IfOk};
 ghost use Rattle.bilv_spec.specs.GraphText.{IsGraphText};
 ghost use Rattle.answer_spec.specs.Outcomes.{IsGraphed, IsGraphedWhole};
 ghost use Rattle.program_value.specs.Programs.{program_of};
@@ -14,15 +14,23 @@ use flag_live::trim;
 use flow_graph::descend;
 use graph_text::print_graph;
 use machine_law::Machine;
+use notes_value::Contract;
 use program_value::Program;
 use std::alloc::{AllocError, Global};
+
+/// The contracts of notes that have none.
+fn no_contracts<'a>() -> &'a [Contract]
+    ensures { result.now ≡ [] }
+{
+    &[]
+}
 
 /// The text of the flow graph of a program of a machine, with the flags whose assignment is live. The error is want of memory.
 fn live_text<M: Machine>(alloc: Global, program: &Program<M>) -> Result<Vec<u8>, AllocError>
     ensures { IfOk result (λ v. IsGraphText (program_of program.now) v.items) }
 {
     let whole = descend::<M>(alloc, program)?;
-    let live = trim(alloc, &whole, 0)?;
+    let live = trim(alloc, &whole, no_contracts(), 0)?;
     let text = print_graph(alloc, &live)?;
     Ok(text)
 }

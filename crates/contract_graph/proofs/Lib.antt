@@ -1,5 +1,2 @@
-pub mod Asking
-pub mod FlagSets
 pub mod Live
-pub mod OldFlags
 pub mod Shapes

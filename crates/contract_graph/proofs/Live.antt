@@ -1,35 +1,75 @@
 -- What the graph of notes with contracts reads is what they read.
-use Rattle.std.proofs.Common.{◌≡◌, ℕ, ◌<◌, refl, ap, sym, ◌∙◌, subst, true, inl, inr, List, length, get_or, map, bit_or}
+use Rattle.std.proofs.Common.{◌≡◌, ℕ, ◌<◌, refl, ap, sym, ◌∙◌, subst, true, inl, inr, List, get_or, map}
 use Rattle.std.specs.Prelude.{◌↔◌, ◌||◌, All, Contains}
-use Rattle.std.specs.List.{AllZip, flat_map}
-use Rattle.std.specs.Vec.{with_items}
-use Rattle.std.proofs.lemmas.List.{get_or_default, with_items_is}
+use Rattle.std.specs.List.{flat_map}
+use Rattle.std.proofs.lemmas.List.{get_or_default}
 use Rattle.answer_spec.specs.FrameGraphs as frames
 use Rattle.answer_spec.specs.FrameGraphs.{IsAddress, LeadsTo, IsRead, IsReadAfter, IsLive, IsFrameGraphText}
 use Rattle.bilv_spec.specs.Graph.{successors_at, may_return}
-use Rattle.bilv_spec.specs.LiveFlags.{reads_by, assigns_by, surely_by, asserts_flag}
+use Rattle.bilv_spec.specs.LiveFlags.{reads_by, assigns_by, surely_by, asserts_flag, ensures_flag}
 use Rattle.bilv_spec.specs.Points.{file_row}
 use Rattle.frame_spec.specs.Frames.{contract_at}
 use Rattle.frame_spec.specs.FrameUnrolling.{contract_reads, exit_reads}
 use Rattle.frame_spec.specs.FrameVerdict.{Whole}
-use Rattle.graph_nodes.specs.Graphs.{IsFlagSet, IsSameGraph, successor_of, addresses_of, has_flag}
+use Rattle.machine_law.specs.declared.facts.FlagUse.{FlagUse}
+use Rattle.graph_nodes.specs.Graphs.{IsFlagSet, IsFlagUseAt, IsNode, IsSameGraph, successor_of, successors_of, addresses_of, has_flag}
 use Rattle.graph_nodes.specs.Places.{AreRising}
 use Rattle.graph_nodes.specs.declared.nodes.Node.{Node}
 use Rattle.graph_nodes.specs.declared.nodes.Graph.{Graph}
 use Rattle.flow_graph.specs.Walks.{IsGraphFrom}
 use Rattle.flow_graph.proofs.Members.{or_cases, or_left, or_right}
 use Rattle.flag_live.specs.Asked.{ensuring}
+use Rattle.flag_live.specs.Contracted.{IsAsked, IsAskedBy, LiveStayBy}
 use Rattle.flag_live.specs.GraphReads.{StandsAt, LeadsToIn, along, back, IsReadIn, by_assert, by_row, later, IsReadAfterIn, on_path, at_exit, IsLiveIn, LiveStayIn}
 use Rattle.flag_live.proofs.Graphs.{stands_address, address_stands, goes_along, along_goes, call_has, has_call}
+use Rattle.flag_live.proofs.Zipped.{said, same_ats}
 use Rattle.graph_text.specs.NodeText.{node_line}
 use Rattle.graph_text.proofs.Graphs.{IsLineAt, line_same, lines_same, text_by}
-use Rattle.contract_graph.specs.Wholes.{IsAsked, IsNode, IsWholeGraph, LiveStayWhole}
-use Rattle.contract_graph.proofs.Shapes.{asked_graph, same_graph, same_addresses, asked_again}
+use Rattle.contract_graph.specs.Wholes.{IsWholeGraph, LiveStayWhole}
+use Rattle.contract_graph.proofs.Shapes.{same_addresses, whole_graph}
 
-module _ (w : Whole) (g : Graph) (is : IsWholeGraph w g) where
+-- a node says what the program has at its address, as far as flags are read; among the flags that are read there are those that a contract step reads
+pub record IsReadNode (w : Whole) (n : Node) : Type 0 where
+  pub successors : successors_of n ≡ successors_at w.program n.at
+  pub returns : n.returns ≡ may_return w.program n.at
+  pub flags : IsFlagUseAt w.program n.at n.flags
+  pub asserted : IsFlagSet n.asserted (λ f. asserts_flag w.program f n.at || contract_reads f (contract_at w.contracts n.at))
+
+-- so does a graph
+pub record IsReadGraph (w : Whole) (g : Graph) : Type 0 where
+  pub all : (a : ℕ) → Contains (addresses_of g) a ↔ IsAddress w a
+  pub nodes : All (λ n. IsReadNode w n) g.nodes.items
+  pub ensured : IsFlagSet g.ensured (λ f. ensures_flag w.program f || exit_reads f w.contracts)
+
+asked_says : (w : Whole) (old new : Node) → IsAsked w.contracts old new → IsNode w.program old → IsReadNode w new
+asked_says w old new asked is =
+    let same = asked.same in
+    let p = w.program in
+    record {
+      successors = same.successors ∙ is.successors ∙ ap (successors_at p) (sym same.at);
+      returns = same.returns ∙ is.returns ∙ ap (may_return p) (sym same.at);
+      flags = subst (λ a. IsFlagUseAt p a new.flags) (sym same.at) (subst (λ (u : FlagUse). IsFlagUseAt p old.at u) (sym same.flags) is.flags);
+      asserted =
+          subst (λ a. IsFlagSet new.asserted (λ f. asserts_flag p f a || contract_reads f (contract_at w.contracts a))) (sym same.at)
+          (asked.asserted (λ f. asserts_flag p f old.at) is.asserted);
+    }
+
+asked_reads : (w : Whole) (old asked : Graph) (flags : ℕ) → IsAskedBy w.contracts (ensuring old flags) asked →
+    IsFlagSet flags (λ f. ensures_flag w.program f) → All (λ n. IsNode w.program n) old.nodes.items →
+    ((a : ℕ) → Contains (addresses_of old) a ↔ IsAddress w a) → IsReadGraph w asked
+asked_reads w old asked flags by ensures is all =
+    let at = same_ats (IsAsked w.contracts) (λ o n s. s.same.at) old.nodes.items asked.nodes.items by.nodes in
+    record {
+      all = λ a. subst (λ (l : List ℕ). Contains l a ↔ IsAddress w a) (sym at) (all a);
+      nodes =
+          said (IsAsked w.contracts) (λ n. IsNode w.program n) (λ n. IsReadNode w n) (asked_says w) old.nodes.items asked.nodes.items by.nodes is;
+      ensured = by.ensured (λ f. ensures_flag w.program f) ensures;
+    }
+
+module _ (w : Whole) (g : Graph) (is : IsReadGraph w g) where
   -- the node that stands at an address says what the program has there
-  node_of : (n : Node) → Contains g.nodes.items n → IsNode w n
-  node_of n among = subst (λ (m : Node). IsNode w m) among.2 (is.nodes among.0 n among.1)
+  node_of : (n : Node) → Contains g.nodes.items n → IsReadNode w n
+  node_of n among = subst (λ (m : Node). IsReadNode w m) among.2 (is.nodes among.0 n among.1)
 
   path_out : (a b : ℕ) → LeadsToIn g a b → LeadsTo w a b
   path_out a b (along n s stands has goes e) =
@@ -66,7 +106,7 @@ module _ (w : Whole) (g : Graph) (is : IsWholeGraph w g) where
           frames.at_exit (ap (may_return w.program) (sym stands.at) ∙ sym (node_of n stands.among).returns ∙ returns) (sym (is.ensured.exact f few) ∙ has)
 
   -- the node of an address
-  node_at : (a : ℕ) → IsAddress w a → (n : Node) × StandsAt g a n × IsNode w n
+  node_at : (a : ℕ) → IsAddress w a → (n : Node) × StandsAt g a n × IsReadNode w n
   node_at a address = (let found = address_stands g a ((is.all a).1 address) in (found.0, found.1, node_of found.0 found.1.among))
 
   path_in : (a b : ℕ) → IsAddress w a → LeadsTo w a b → LeadsToIn g a b × IsAddress w b
@@ -144,32 +184,18 @@ module _ (w : Whole) (g : Graph) (is : IsWholeGraph w g) where
         );
       }
 
--- a graph with other nodes, and with more flags at its exit
-abbrev pub changed : Graph → List Node → (read : ℕ) → Graph
-changed g news read = record { narrow = g.narrow; nodes = with_items g.nodes news; ensured = bit_or g.ensured read }
-
 -- the graph in which they stay
-whole_kept : (w : Whole) (others : List ℕ) (old new live : Graph) (read : ℕ) → others ≡ map (λ x. x.at) w.contracts → IsGraphFrom w.program others old
-    → AllZip (IsAsked w.contracts) old.nodes.items new.nodes.items → new.narrow ≡ old.narrow → IsFlagSet read (λ f. exit_reads f w.contracts)
-    → new.ensured ≡ bit_or old.ensured read → IsSameGraph (ensuring new live.ensured) live
-    → IsFlagSet live.ensured (λ f. has_flag 0 f || has_flag new.ensured f) → (AreRising new.nodes.items → LiveStayIn (ensuring new live.ensured) live)
-    → IsWholeGraph w live × LiveStayWhole w live
-whole_kept w others old new live read e is asked narrow reads ensured same flags alive =
-    let whole = asked_graph w others old new read e is asked narrow reads ensured in
-    let again = asked_again w new live.ensured flags whole in
-    (same_graph w (ensuring new live.ensured) live same again, live_stay w (ensuring new live.ensured) again live (same_addresses _ _ same) (alive whole.rising))
-
--- the same where the nodes were changed in place
-pub whole_made : (w : Whole) (others : List ℕ) (old live : Graph) (shown news : List Node) (read : ℕ) → others ≡ map (λ x. x.at) w.contracts
-    → IsGraphFrom w.program others old → shown ≡ old.nodes.items → length news ≡ old.nodes.len → AllZip (IsAsked w.contracts) shown news
-    → IsFlagSet read (λ f. exit_reads f w.contracts)
-    → IsSameGraph (ensuring (changed old news read) live.ensured) live
-    → IsFlagSet live.ensured (λ f. has_flag 0 f || has_flag (bit_or old.ensured read) f)
-    → (AreRising (changed old news read).nodes.items → LiveStayIn (ensuring (changed old news read) live.ensured) live) → IsWholeGraph w live × LiveStayWhole w live
-whole_made w others old live shown news read e is same size asked reads kept flags alive =
-    whole_kept w others old (changed old news read) live read e is
-    (subst (λ (l : List Node). AllZip (IsAsked w.contracts) old.nodes.items l) (sym (with_items_is old.nodes news size))
-    (subst (λ (l : List Node). AllZip (IsAsked w.contracts) l news) same asked)) refl reads refl kept flags alive
+pub whole_made : (w : Whole) (others : List ℕ) (old live : Graph) → others ≡ map (λ x. x.at) w.contracts → IsGraphFrom w.program others old
+    → IsSameGraph (ensuring old live.ensured) live → IsFlagSet live.ensured (λ f. has_flag 0 f || has_flag old.ensured f)
+    → (AreRising old.nodes.items → LiveStayBy w.contracts (ensuring old live.ensured) live) → IsWholeGraph w live × LiveStayWhole w live
+whole_made w others old live e is same flags alive =
+    let whole = whole_graph w others old live e is flags same in
+    let stays = alive is.rising in
+    let ats = same_addresses (ensuring old live.ensured) live same in
+    let reads = asked_reads w old stays.asked live.ensured stays.is whole.ensured is.nodes
+    (λ a. subst (λ (l : List ℕ). Contains l a ↔ IsAddress w a) ats (whole.all a)) in
+    let asked_ats = same_ats (IsAsked w.contracts) (λ o n s. s.same.at) old.nodes.items stays.asked.nodes.items stays.is.nodes in
+    (whole, live_stay w stays.asked reads live (ats ∙ sym asked_ats) stays.live)
 
 -- the text of the graph
 pub text_is : (w : Whole) (g : Graph) (text : List ℕ) → IsWholeGraph w g → LiveStayWhole w g → text ≡ flat_map node_line g.nodes.items → IsFrameGraphText w text

@@ -2,7 +2,6 @@
 //! reads, or the exit of a contract's frame.
 #![tactic(auto)]
 
-mod flags;
 mod whole;
 
 pub use whole::{print_whole_graph, whole_graph};

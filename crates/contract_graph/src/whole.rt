@@ -1,15 +1,13 @@
 //! The flow graph of notes with contracts, and its text.
 ghost use Rattle.std.specs.Prelude.{◌≡◌, ℕ, List, IfOk, map};
-ghost use Rattle.std.specs.List.{AllZip};
 ghost use Rattle.answer_spec.specs.FrameGraphs.{IsFrameGraphText};
 ghost use Rattle.program_value.specs.Programs.{program_of};
 ghost use Rattle.notes_value.specs.FrameViews.{contract_of};
-ghost use Rattle.contract_graph.specs.Wholes.{IsAsked, IsWholeGraph, LiveStayWhole, whole_with};
+ghost use Rattle.contract_graph.specs.Wholes.{IsWholeGraph, LiveStayWhole, whole_with};
 
-use crate::flags::{read_at, read_at_exits};
 use flag_live::trim;
 use flow_graph::descend_from;
-use graph_nodes::{Graph, Node};
+use graph_nodes::Graph;
 use graph_text::print_graph;
 use machine_law::Machine;
 use notes_value::Contract;
@@ -27,15 +25,6 @@ fn addresses(alloc: Global, contracts: &[Contract]) -> Result<Vec<u32>, AllocErr
     Ok(found)
 }
 
-/// Adds to the flags that are read at the addresses of nodes those that contract steps read there.
-fn ask(nodes: &mut [Node], contracts: &[Contract])
-    ensures { AllZip (IsAsked (map contract_of contracts.now)) nodes.old nodes.new }
-{
-    for i in 0..nodes.len() {
-        nodes[i].asserted |= read_at(contracts, nodes[i].at);
-    }
-}
-
 /// The flow graph of a program whose notes have contracts, with the assignments of flags that are live.
 ///
 /// # Errors
@@ -50,10 +39,8 @@ pub fn whole_graph<M: Machine>(
     ensures live { (heads : List ℕ) → IfOk result (LiveStayWhole (whole_with (program_of program.now) heads contracts.now)) }
 {
     let others = addresses(alloc, contracts)?;
-    let mut graph = descend_from::<M>(alloc, program, &others)?;
-    ask(graph.nodes.as_mut_slice(), contracts);
-    graph.ensured |= read_at_exits(contracts);
-    let live = trim(alloc, &graph, 0)?;
+    let graph = descend_from::<M>(alloc, program, &others)?;
+    let live = trim(alloc, &graph, contracts, 0)?;
     Ok(live)
 }
 

@@ -14,7 +14,7 @@ use Rattle.graph_nodes.specs.Graphs.{addresses_of, node_word, row_length, row_li
 use Rattle.flag_live.specs.Asked.{ensuring, unasked}
 
 -- a node stays the node of its address
-same_node : (p : Program) (old new : Node) → IsSameNode old new → IsNode p old → IsNode p new
+pub same_node : (p : Program) (old new : Node) → IsSameNode old new → IsNode p old → IsNode p new
 same_node p old new same is = record {
   length = same.length ∙ is.length ∙ ap (λ a. row_length (file_row p a)) (sym same.at);
   fetchable = same.fetchable ∙ is.fetchable ∙ ap (λ a. fetchable p (file_word p a) a) (sym same.at);

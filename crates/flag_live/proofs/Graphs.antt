@@ -1,20 +1,16 @@
--- What a program's graph reads is what the program reads.
-use Rattle.std.proofs.Common.{◌≡◌, ◌≢◌, ℕ, zero, suc, ◌<◌, List, [], ◌∷◌, map, refl, sym, ap, ◌∙◌, subst, arith}
-use Rattle.std.specs.Prelude.{◌↔◌, Contains}
+-- Nodes, and the successors of their addresses.
+use Rattle.std.proofs.Common.{◌≡◌, ◌≢◌, ℕ, zero, suc, List, [], ◌∷◌, map, refl, sym, ap, ◌∙◌, subst, arith}
+use Rattle.std.specs.Prelude.{Contains}
 use Rattle.std.proofs.lemmas.List.{get_or-map, length-map}
-use Rattle.bilv_spec.specs.Run.{Program}
-use Rattle.bilv_spec.specs.Points.{file_row}
 use Rattle.bilv_spec.specs.Graph as graph
-use Rattle.bilv_spec.specs.Graph.{IsAddress, listed, successors_at, successor, may_return, LeadsTo, ReturnLetter}
-use Rattle.bilv_spec.specs.LiveFlags as live
-use Rattle.bilv_spec.specs.LiveFlags.{reads_by, assigns_by, surely_by, asserts_flag, IsRead, IsReadAfter, IsLive}
-use Rattle.graph_nodes.specs.Graphs.{letter_of, successor_of, successors_of, addresses_of, IsNode, IsGraph}
+use Rattle.bilv_spec.specs.Graph.{successor, ReturnLetter}
+use Rattle.graph_nodes.specs.Graphs.{letter_of, successor_of, successors_of, addresses_of}
 use Rattle.graph_nodes.specs.declared.nodes.Letter.{Letter}
 use Rattle.graph_nodes.specs.declared.nodes.Letter.TheVariants.{Next, Jump, Call, Return}
 use Rattle.graph_nodes.specs.declared.nodes.Successor.{Successor}
 use Rattle.graph_nodes.specs.declared.nodes.Node.{Node}
 use Rattle.graph_nodes.specs.declared.nodes.Graph.{Graph}
-use Rattle.flag_live.specs.GraphReads.{StandsAt, IsBehindCall, LeadsToIn, along, back, IsReadIn, by_assert, by_row, later, IsReadAfterIn, on_path, at_exit, IsLiveIn}
+use Rattle.flag_live.specs.GraphReads.{StandsAt, IsBehindCall}
 
 -- items of a mapped list
 has_map : {X Y : Type 0} (f : X → Y) (xs : List X) (x : X) → Contains xs x → Contains (map f xs) (f x)
@@ -79,89 +75,3 @@ has_call g c b n xs stands is has =
       returns = return_letter found.0.letter (ap (λ (y : graph.Successor). y.letter) found.2);
       to = ap (λ (y : graph.Successor). y.to) found.2;
     }
-
--- the node that stands at an address says what the program has there
-node_of : (p : Program) (g : Graph) (n : Node) → IsGraph p g → Contains g.nodes.items n → IsNode p n
-node_of p g n is among = subst (λ (m : Node). IsNode p m) among.2 (is.nodes among.0 n among.1)
-
-path_out : (p : Program) (g : Graph) (a b : ℕ) → IsGraph p g → LeadsToIn g a b → LeadsTo p a b
-path_out p g a b is (along n s stands has goes e) =
-    let there = goes_along n (successors_at p n.at) s (node_of p g n is stands.among).successors has goes in
-    graph.along (successor_of s) (subst (λ (x : ℕ). Contains (successors_at p x) (successor_of s)) stands.at there.0) there.1 e
-path_out p g a b is (back n stands returns call) =
-    let caller : StandsAt g call.call.at call.call = record { among = call.among; at = refl } in
-    graph.back (ap (may_return p) (sym stands.at) ∙ sym (node_of p g n is stands.among).returns ∙ returns)
-    ((is.all call.call.at).0 (stands_address g call.call.at call.call caller))
-    (call_has g b call (successors_at p call.call.at) (node_of p g call.call is call.among).successors)
-
-mutual
-  -- what the graph reads the program reads
-  read_out : (p : Program) (g : Graph) (f : ℕ) → f < 4 → IsGraph p g → (a : ℕ) → IsReadIn g f a → IsRead p f a
-  read_out p g f few is a (by_assert n stands asserts) =
-      live.by_assert (ap (asserts_flag p f) (sym stands.at) ∙ sym ((node_of p g n is stands.among).asserted.exact f few) ∙ asserts)
-  read_out p g f few is a (by_row n stands reads) =
-      live.by_row (ap (λ (x : ℕ). reads_by f (file_row p x)) (sym stands.at) ∙ sym ((node_of p g n is stands.among).flags.reads.exact f few) ∙ reads)
-  read_out p g f few is a (later n stands free after) =
-      live.later (ap (λ (x : ℕ). surely_by f (file_row p x)) (sym stands.at) ∙ sym ((node_of p g n is stands.among).flags.surely.exact f few) ∙ free)
-      (after_out p g f few is a after)
-
-  after_out : (p : Program) (g : Graph) (f : ℕ) → f < 4 → IsGraph p g → (a : ℕ) → IsReadAfterIn g f a → IsReadAfter p f a
-  after_out p g f few is a (on_path {b = b} leads read) = live.on_path (path_out p g a b is leads) (read_out p g f few is b read)
-  after_out p g f few is a (at_exit n stands returns has) =
-      live.at_exit (ap (may_return p) (sym stands.at) ∙ sym (node_of p g n is stands.among).returns ∙ returns) (sym (is.ensured.exact f few) ∙ has)
-
--- the node of an address of the program
-node_at : (p : Program) (g : Graph) (a : ℕ) → IsGraph p g → IsAddress p a → (n : Node) × StandsAt g a n × IsNode p n
-node_at p g a is address = (let found = address_stands g a ((is.all a).1 address) in (found.0, found.1, node_of p g found.0 is found.1.among))
-
-path_in : (p : Program) (g : Graph) (a b : ℕ) → IsGraph p g → IsAddress p a → LeadsTo p a b → LeadsToIn g a b × IsAddress p b
-path_in p g a b is address (graph.along x has goes e) =
-    let node = node_at p g a is address in
-    let there = along_goes node.0 (successors_at p a) x (node.2.successors ∙ ap (successors_at p) node.1.at) has goes in
-    (along node.0 there.0 node.1 there.1 there.2 (there.3 ∙ e), subst (IsAddress p) e (listed address has))
-path_in p g a b is address (graph.back {c = c} may from has) =
-    let node = node_at p g a is address in
-    let call = node_at p g c is from in (
-      back node.0 node.1 (node.2.returns ∙ ap (may_return p) node.1.at ∙ may)
-          (has_call g c b call.0 (successors_at p c) call.1 (call.2.successors ∙ ap (successors_at p) call.1.at) has),
-      listed from has,
-    )
-
-mutual
-  -- and what the program reads from its addresses on the graph reads
-  read_in : (p : Program) (g : Graph) (f : ℕ) → f < 4 → IsGraph p g → (a : ℕ) → IsAddress p a → IsRead p f a → IsReadIn g f a
-  read_in p g f few is a address (live.by_assert asserts) =
-      let node = node_at p g a is address in
-      by_assert node.0 node.1 (node.2.asserted.exact f few ∙ ap (asserts_flag p f) node.1.at ∙ asserts)
-  read_in p g f few is a address (live.by_row reads) =
-      let node = node_at p g a is address in
-      by_row node.0 node.1 (node.2.flags.reads.exact f few ∙ ap (λ (x : ℕ). reads_by f (file_row p x)) node.1.at ∙ reads)
-  read_in p g f few is a address (live.later free after) =
-      let node = node_at p g a is address in
-      later node.0 node.1 (node.2.flags.surely.exact f few ∙ ap (λ (x : ℕ). surely_by f (file_row p x)) node.1.at ∙ free)
-      (after_in p g f few is a address after)
-
-  after_in : (p : Program) (g : Graph) (f : ℕ) → f < 4 → IsGraph p g → (a : ℕ) → IsAddress p a → IsReadAfter p f a → IsReadAfterIn g f a
-  after_in p g f few is a address (live.on_path {b = b} leads read) =
-      let path = path_in p g a b is address leads in
-      on_path path.0 (read_in p g f few is b path.1 read)
-  after_in p g f few is a address (live.at_exit may has) =
-      let node = node_at p g a is address in
-      at_exit node.0 node.1 (node.2.returns ∙ ap (may_return p) node.1.at ∙ may) (is.ensured.exact f few ∙ has)
-
--- at the addresses of a program the same assignments are live
-pub live_in : (p : Program) (g : Graph) (f : ℕ) → f < 4 → IsGraph p g → (a : ℕ) → Contains (addresses_of g) a → IsLiveIn g f a ↔ IsLive p f a
-live_in p g f few is a has = (
-  λ lives. record {
-    assigns =
-        ap (λ (x : ℕ). assigns_by f (file_row p x)) (sym lives.stands.at) ∙ sym ((node_of p g lives.node is lives.stands.among).flags.assigns.exact f few)
-        ∙ lives.assigns;
-    read = after_out p g f few is a lives.read;
-  },
-  λ lives. (let address = (is.all a).0 has in let node = node_at p g a is address in record {
-    node = node.0;
-    stands = node.1;
-    assigns = node.2.flags.assigns.exact f few ∙ ap (λ (x : ℕ). assigns_by f (file_row p x)) node.1.at ∙ lives.assigns;
-    read = after_in p g f few is a address lives.read;
-  }),
-)

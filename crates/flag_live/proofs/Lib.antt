@@ -1,9 +1,15 @@
 pub mod Added
+pub mod Besides
 pub mod Begun
+pub mod ContractFlags
 pub mod FlagSets
 pub mod Graphed
 pub mod Graphs
 pub mod Lives
 pub mod Located
+pub mod OldFlags
+pub mod ReadWith
 pub mod Readings
+pub mod Stays
 pub mod Walks
+pub mod Zipped

@@ -1,15 +1,13 @@
 -- Nodes whose assignment of a flag is live, and a graph that keeps those.
-use Rattle.std.proofs.Common.{◌≡◌, refl, ℕ, suc, zero, ◌≤◌, ◌<◌, ◌+◌, List, [], ◌∷◌, ◌++◌, Bool, true, false, length, get_or, take, sym, ap, ◌∙◌, subst, arith, inl, inr}
-use Rattle.std.specs.Prelude.{◌↔◌, ◌⊎◌, ◌||◌, All, Contains}
+use Rattle.std.proofs.Common.{◌≡◌, ℕ, suc, zero, ◌≤◌, ◌<◌, ◌+◌, List, [], ◌∷◌, ◌++◌, Bool, true, false, length, get_or, take, sym, ap, ◌∙◌, subst, arith, inl, inr}
+use Rattle.std.specs.Prelude.{◌↔◌, All, Contains}
 use Rattle.std.specs.List.{AllZip}
 use Rattle.std.specs.List.Sorted.{IsPermutation}
 use Rattle.std.proofs.lemmas.Bool.{cases_lt}
 use Rattle.std.proofs.lemmas.List.{get_or_append_left, get_or_push, length_push, get_or_default, length-take-le, take_all}
 use Rattle.std.proofs.lemmas.List.Elements.{length_all_zip, AllZip-get_or}
 use Rattle.std.proofs.lemmas.List.Sorted.{Contains-permutation, IsPermutation-sym}
-use Rattle.bilv_spec.specs.Run.{Program}
-use Rattle.bilv_spec.specs.LiveFlags.{IsLive}
-use Rattle.graph_nodes.specs.Graphs.{has_flag, IsGraph, IsSameNode, IsKeptLive}
+use Rattle.graph_nodes.specs.Graphs.{has_flag, IsSameNode}
 use Rattle.graph_nodes.specs.declared.nodes.Successor.{Successor}
 use Rattle.graph_nodes.specs.declared.nodes.Letter.TheVariants.{Return}
 use Rattle.graph_nodes.specs.declared.nodes.Node.{Node}
@@ -19,9 +17,10 @@ use Rattle.flag_live.specs.Reachable.{Reaches, IsMarked}
 use Rattle.flag_live.specs.Vertices.{IsNodeAt, IsEdge, IsStart}
 use Rattle.graph_nodes.specs.Places.{AreRising}
 use Rattle.flag_live.specs.Meanings.{AreReads, LeadsOn, IsOn, on_successor, on_exit, IsLiveNode, AreLiveBelow, AreLive}
-use Rattle.flag_live.specs.Keeps.{IsKeptBesides, IsKeptWith, IsSetOf}
+use Rattle.flag_live.specs.Keeps.{IsSetOf}
+use Rattle.flag_live.specs.Lives.{AreAllLive}
+use Rattle.flag_live.specs.declared.trimmed.Lives.{Lives}
 use Rattle.flag_live.proofs.Located.{node_is}
-use Rattle.flag_live.proofs.Graphs.{stands_address, live_in}
 use Rattle.flag_live.proofs.Readings.{reads_are, live_is}
 
 -- the marks of what is reached over sorted edges
@@ -122,74 +121,20 @@ flag_live g set a n z c v is three two one none (suc (suc (suc zero))) few = sub
 flag_live g set a n z c v is three two one none (suc (suc (suc (suc f)))) few = absurd (omega arith)
 
 -- the assignments that stay are those that are live
-pub stay_live : (g : Graph) (new : List Node) (n z c v : List Bool) → AllZip IsSameNode g.nodes.items new
-    → ((k : ℕ) (d : Node) → k < length new → IsSetOf (get_or new k d).keeps (get_or n k false) (get_or z k false) (get_or c k false) (get_or v k false))
-    → AreLive g 3 n → AreLive g 2 z → AreLive g 1 c → AreLive g 0 v → All (λ m. IsKeptLiveIn g m) new
-stay_live g new n z c v same kept three two one none k d w =
-    let sizes = length_all_zip IsSameNode g.nodes.items new same in
+pub stay_live : (g : Graph) (new : List Node) (live : Lives) → AllZip (λ (o n : Node). n.at ≡ o.at) g.nodes.items new
+    → ((k : ℕ) (d : Node) → k < length new → IsSetOf (get_or new k d).keeps (get_or live.negative.items k false) (get_or live.zero.items k false)
+    (get_or live.carry.items k false) (get_or live.overflow.items k false))
+    → AreAllLive g live → All (λ m. IsKeptLiveIn g m) new
+stay_live g new live same kept all k d w =
+    let sizes = length_all_zip (λ (o n : Node). n.at ≡ o.at) g.nodes.items new same in
     let inside : k < length g.nodes.items = omega arith in
     let old = get_or g.nodes.items k d in
     let at : IsNodeAt g.nodes.items k old = record { within = inside; is = get_or_default g.nodes.items k old d inside } in
-    let one_same = AllZip-get_or IsSameNode g.nodes.items new k d d same inside in
+    let one_same = AllZip-get_or (λ (o n : Node). n.at ≡ o.at) g.nodes.items new k d d same inside in
     let set = kept k d w in
     record {
       small = set.small;
-      exact = subst (λ (a : ℕ). (f : ℕ) → f < 4 → (has_flag (get_or new k d).keeps f ≡ true) ↔ IsLiveIn g f a) (sym one_same.at)
-          (flag_live g (get_or new k d).keeps old.at _ _ _ _ set (three.each k old at) (two.each k old at) (one.each k old at) (none.each k old at));
+      exact = subst (λ (a : ℕ). (f : ℕ) → f < 4 → (has_flag (get_or new k d).keeps f ≡ true) ↔ IsLiveIn g f a) (sym one_same)
+          (flag_live g (get_or new k d).keeps old.at _ _ _ _ set (all.negative.each k old at) (all.zero.each k old at) (all.carry.each k old at)
+          (all.overflow.each k old at));
     }
-
--- so for the program whose graph it is
-pub stay_in : (p : Program) (g : Graph) (new : List Node) → AllZip IsSameNode g.nodes.items new → IsGraph p g → All (λ m. IsKeptLiveIn g m) new →
-    All (λ m. IsKeptLive p m) new
-stay_in p g new same is live k d w =
-    let sizes = length_all_zip IsSameNode g.nodes.items new same in
-    let inside : k < length g.nodes.items = omega arith in
-    let one_same = AllZip-get_or IsSameNode g.nodes.items new k d d same inside in
-    let kept = live k d w in
-    let has = stands_address g (get_or new k d).at (get_or g.nodes.items k d)
-    (record { among = (k, inside, get_or_default g.nodes.items k (get_or g.nodes.items k d) d inside); at = sym one_same.at }) in
-    record {
-      small = kept.small;
-      exact = λ f few. (
-        λ h. (live_in p g f few is (get_or new k d).at has).0 ((kept.exact f few).0 h),
-        λ h. (kept.exact f few).1 ((live_in p g f few is (get_or new k d).at has).1 h),
-      );
-    }
-
--- assignments that stay besides others
-pub kept_all : (always : ℕ) (old new : List Node) (i : ℕ) → length old ≤ i → AllZip (IsKeptBesides always) (take i old) new → AllZip (IsKeptBesides always) old new
-kept_all always old new i all kept = subst (λ (xs : List Node). AllZip (IsKeptBesides always) xs new) (take_all i old all) kept
-
-or_left : (a b : Bool) → a ≡ true → (a || b) ≡ true
-or_left true b h = refl
-or_left false b h = absurd (cc)
-
-or_right : (a b : Bool) → b ≡ true → (a || b) ≡ true
-or_right true b h = refl
-or_right false b h = h
-
-or_one : (a b : Bool) → (a || b) ≡ true → (a ≡ true) ⊎ (b ≡ true)
-or_one true b h = inl refl
-or_one false b h = inr h
-
-one_with : (p : Program) (always : ℕ) (old new : Node) → IsSameNode old new → IsKeptBesides always old new → IsKeptLive p old → IsKeptWith p always new
-one_with p always old new same kept live = record {
-  live = λ f few h.
-      kept.exact f few ∙ or_left (has_flag old.keeps f) (has_flag always f) ((live.exact f few).1 (subst (λ (a : ℕ). IsLive p f a) same.at h));
-  besides = λ f few h. kept.exact f few ∙ or_right (has_flag old.keeps f) (has_flag always f) h;
-  only = λ f few h. elim (or_one (has_flag old.keeps f) (has_flag always f) (sym (kept.exact f few) ∙ h)) as
-      (λ _. IsLive p f new.at ⊎ (has_flag always f ≡ true)) [
-        | inl k ↦ inl (subst (λ (a : ℕ). IsLive p f a) (sym same.at) ((live.exact f few).0 k))
-        | inr k ↦ inr k
-      ];
-}
-
--- so in a graph in which the live ones stay
-pub kept_with : (p : Program) (always : ℕ) (old new : List Node) → AllZip IsSameNode old new → AllZip (IsKeptBesides always) old new →
-    All (λ n. IsKeptLive p n) old → All (λ n. IsKeptWith p always n) new
-kept_with p always [] [] same kept live i d l = absurd (omega (arith, l))
-kept_with p always [] (y ∷ new) same kept live i d l = absurd same
-kept_with p always (x ∷ old) [] same kept live i d l = absurd same
-kept_with p always (x ∷ old) (y ∷ new) same kept live zero d l = one_with p always x y same.0 kept.0 (live 0 x (omega arith))
-kept_with p always (x ∷ old) (y ∷ new) same kept live (suc i) d l =
-    kept_with p always old new same.1 kept.1 (λ j e w. live (suc j) e (omega arith)) i d (omega arith)

@@ -1,16 +1,20 @@
 //! A graph with the flag assignments that are live.
-ghost use Rattle.std.specs.List.{AllZip};
-ghost use Rattle.std.specs.Prelude.{◌≡◌, ◌<◌, ◌||◌, ℕ, Bool, true, false, IfOk, slice_index_or, if◌then◌else◌};
+ghost use Rattle.std.specs.Prelude.{◌≡◌, ◌<◌, ◌||◌, [], ℕ, Bool, true, false, IfOk, map, slice_index_or, if◌then◌else◌};
 ghost use Rattle.bilv_spec.specs.Run.{Program};
 ghost use Rattle.graph_nodes.specs.Graphs as graphs;
-ghost use Rattle.graph_nodes.specs.Graphs.{IsFlagSet, IsGraph, IsSameNode, IsSameGraph, LiveStay};
+ghost use Rattle.graph_nodes.specs.Graphs.{IsFlagSet, IsGraph, IsSameGraph, LiveStay};
 ghost use Rattle.graph_nodes.specs.Places.{AreRising};
 ghost use Rattle.flag_live.specs.Asked.{ensuring, unasked};
-ghost use Rattle.flag_live.specs.GraphReads.{LiveStayIn};
-ghost use Rattle.flag_live.specs.Keeps.{IsKeptBesides, IsSetOf, LiveStayWith};
+ghost use Rattle.flag_live.specs.Contracted.{LiveStayBy, LiveStayWith};
+ghost use Rattle.flag_live.specs.Keeps.{IsSetOf};
+ghost use Rattle.flag_live.specs.Lives.{AreAllLive, AreLiveBy};
+ghost use Rattle.notes_value.specs.FrameViews.{contract_of};
 
+use crate::asking::asked_graph;
+use crate::copies::with_keeps;
 use crate::live::{is_marked, lives};
-use graph_nodes::{Graph, Node, Successor, has_flag};
+use graph_nodes::{Graph, has_flag};
+use notes_value::Contract;
 use std::alloc::{AllocError, Global};
 
 /// For each of the flags and each node whether the node's assignment is live.
@@ -70,53 +74,60 @@ fn keeps_at(lives: &Lives, i: usize) -> u8
     set_of(negative, zero, carry, overflow)
 }
 
-/// A copy of successors. The error is want of memory.
-fn copied(alloc: Global, successors: &[Successor]) -> Result<Vec<Successor>, AllocError>
-    ensures { IfOk result (λ v. v.items ≡ successors.now) }
+/// For each of the flags and each node of a graph whether the node's assignment is live, where a set of flags is read at the exit. The error is want of memory.
+fn all_lives(alloc: Global, graph: &Graph, ensured: u8) -> Result<Lives, AllocError>
+    ensures { AreRising graph.now.nodes.items → IfOk result (λ live. AreAllLive (ensuring graph.now ensured) live) }
 {
-    successors.iter().copied().collect(alloc)
-}
-
-/// A copy of a node, in which other assignments stay. The error is want of memory.
-fn with_keeps(alloc: Global, node: &Node, keeps: u8) -> Result<Node, AllocError>
-    ensures same { IfOk result (λ n. IsSameNode node.now n) }
-    ensures kept { IfOk result (λ n. n.keeps ≡ keeps) }
-{
-    let successors = copied(alloc, &node.successors)?;
-    Ok(Node {
-        at: node.at,
-        length: node.length,
-        fetchable: node.fetchable,
-        word: node.word,
-        successors,
-        returns: node.returns,
-        links: node.links,
-        flags: node.flags,
-        asserted: node.asserted,
-        keeps,
-    })
-}
-
-/// Keeps of a graph's flag assignments exactly those that are live: some static path reads the flag before it is surely assigned again. The flags of the set
-/// `out`, N 8, Z 4, C 2 and V 1, are read at the exit, besides those that ensure lines name; the graph does not speak of them before, and does so after.
-///
-/// # Errors
-///
-/// Out of memory.
-pub fn trim(alloc: Global, graph: &Graph, out: u8) -> Result<Graph, AllocError>
-    ensures same { IfOk result (λ t. IsSameGraph (ensuring graph.now t.ensured) t) }
-    ensures asked { IfOk result (λ t. IsFlagSet t.ensured (λ f. graphs.has_flag out f || graphs.has_flag graph.now.ensured f)) }
-    ensures alive { AreRising graph.now.nodes.items → IfOk result (λ t. LiveStayIn (ensuring graph.now t.ensured) t) }
-    ensures graph { (p : Program) → IsFlagSet out p.out → IsGraph (unasked p) graph.now → IfOk result (λ t. IsGraph p t) }
-    ensures live { (p : Program) → IsFlagSet out p.out → IsGraph (unasked p) graph.now → IfOk result (λ t. LiveStay p t) }
-{
-    let ensured = joined(out, graph.ensured);
-    let lives = Lives {
+    Ok(Lives {
         negative: lives(alloc, graph, ensured, 3)?,
         zero: lives(alloc, graph, ensured, 2)?,
         carry: lives(alloc, graph, ensured, 1)?,
         overflow: lives(alloc, graph, ensured, 0)?,
-    };
+    })
+}
+
+/// So where the flags are read besides that contracts read. The error is want of memory.
+fn lives_with(
+    alloc: Global,
+    graph: &Graph,
+    contracts: &[Contract],
+    ensured: u8,
+) -> Result<Lives, AllocError>
+    requires { ensured < 16 }
+    ensures { AreRising graph.now.nodes.items → IfOk result (AreLiveBy (map contract_of contracts.now) (ensuring graph.now ensured)) }
+{
+    if contracts.is_empty() {
+        let live = all_lives(alloc, graph, ensured)?;
+        return Ok(live);
+    }
+    let asked = asked_graph(alloc, graph, contracts, ensured)?;
+    let live = all_lives(alloc, &asked, asked.ensured)?;
+    Ok(live)
+}
+
+/// Keeps of a graph's flag assignments exactly those that are live: some static path reads the flag before it is surely assigned again. A contract step at an
+/// address reads flags there, and the exit of each contract's frame. The flags of the set `out`, N 8, Z 4, C 2 and V 1, are read at the exit, besides those that
+/// ensure lines name; the graph does not speak of them before, and does so after.
+///
+/// # Errors
+///
+/// Out of memory.
+pub fn trim(
+    alloc: Global,
+    graph: &Graph,
+    contracts: &[Contract],
+    out: u8,
+) -> Result<Graph, AllocError>
+    ensures same { IfOk result (λ t. IsSameGraph (ensuring graph.now t.ensured) t) }
+    ensures asked { IfOk result (λ t. IsFlagSet t.ensured (λ f. graphs.has_flag out f || graphs.has_flag graph.now.ensured f)) }
+    ensures alive { AreRising graph.now.nodes.items → IfOk result (λ t. LiveStayBy (map contract_of contracts.now) (ensuring graph.now t.ensured) t) }
+    ensures graph { (p : Program) → IsFlagSet out p.out → IsGraph (unasked p) graph.now → IfOk result (λ t. IsGraph p t) }
+    ensures frames { (p : Program) → IsFlagSet out p.out → IsGraph (unasked p) graph.now →
+        IfOk result (λ t. LiveStayWith p (map contract_of contracts.now) t) }
+    ensures live { (p : Program) → contracts.now ≡ [] → IsFlagSet out p.out → IsGraph (unasked p) graph.now → IfOk result (λ t. LiveStay p t) }
+{
+    let ensured = joined(out, graph.ensured);
+    let lives = lives_with(alloc, graph, contracts, ensured)?;
     let mut nodes = Vec::new(alloc);
     for i in 0..graph.nodes.len() {
         let node = with_keeps(alloc, &graph.nodes[i], keeps_at(&lives, i))?;
@@ -126,29 +137,5 @@ pub fn trim(alloc: Global, graph: &Graph, out: u8) -> Result<Graph, AllocError>
         narrow: graph.narrow,
         nodes,
         ensured,
-    })
-}
-
-/// A copy of a graph in which the assignments of the flags of the set `always`, N 8, Z 4, C 2 and V 1, stay besides those that stay in the graph.
-///
-/// # Errors
-///
-/// Out of memory.
-pub fn keep(alloc: Global, graph: &Graph, always: u8) -> Result<Graph, AllocError>
-    ensures same { IfOk result (λ t. IsSameGraph graph.now t) }
-    ensures kept { IfOk result (λ t. AllZip (IsKeptBesides always) graph.now.nodes.items t.nodes.items) }
-    ensures graph { (p : Program) → IsGraph p graph.now → IfOk result (λ t. IsGraph p t) }
-    ensures live { (p : Program) → LiveStay p graph.now → IfOk result (λ t. LiveStayWith p always t) }
-{
-    let mut nodes = Vec::new(alloc);
-    for i in 0..graph.nodes.len() {
-        let node = &graph.nodes[i];
-        let keeping = with_keeps(alloc, node, joined(node.keeps, always))?;
-        nodes.push(keeping)?;
-    }
-    Ok(Graph {
-        narrow: graph.narrow,
-        nodes,
-        ensured: graph.ensured,
     })
 }

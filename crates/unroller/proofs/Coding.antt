@@ -5,7 +5,7 @@ use Rattle.std.proofs.lemmas.List.{get_or-map}
 use Rattle.machine_spec.specs.Bil.{Bank}
 use Rattle.bilv_spec.specs.Run.{Program}
 use Rattle.std.specs.Prelude.{Contains}
-use Rattle.flag_live.specs.Keeps.{IsKeptWith, LiveStayWith}
+use Rattle.flag_live.specs.Contracted.{IsKeptWith, LiveStayWith}
 use Rattle.graph_nodes.specs.Graphs.{IsGraph, IsNode}
 use Rattle.graph_nodes.specs.declared.nodes.Graph.{Graph}
 use Rattle.graph_nodes.specs.declared.nodes.Node.{Node}
@@ -21,26 +21,26 @@ use Rattle.unroller.specs.Steps.{contract_by, step_codes}
 use Rattle.unroller.proofs.Adding.{take_none}
 use Rattle.unroller.proofs.Ordered.{map_more}
 
-pub codes_none : (p : Program) (bank : Bank) (always : ℕ) (addresses : List ℕ) (asserts : List (ℕ × ℕ)) (codes : List Code) → codes ≡ [] →
-    AreCodes p bank always addresses asserts 0 codes
-codes_none p bank always addresses asserts codes e = record { count = ap length e; each = λ i d w. absurd (omega arith) }
+pub codes_none : (p : Program) (bank : Bank) (noted : List frames.Contract) (addresses : List ℕ) (asserts : List (ℕ × ℕ)) (codes : List Code) → codes ≡ [] →
+    AreCodes p bank noted addresses asserts 0 codes
+codes_none p bank noted addresses asserts codes e = record { count = ap length e; each = λ i d w. absurd (omega arith) }
 
-pub codes_more : (p : Program) (bank : Bank) (always : ℕ) (addresses : List ℕ) (asserts : List (ℕ × ℕ)) (i : ℕ) (codes more : List Code) (c : Code) →
-    AreCodes p bank always addresses asserts i codes →
-    more ≡ codes ++ c ∷ [] → IsCodeOf p bank always (get_or addresses i 0) asserts c → AreCodes p bank always addresses asserts (i + 1) more
-codes_more p bank always addresses asserts i codes more c are is of = record {
+pub codes_more : (p : Program) (bank : Bank) (noted : List frames.Contract) (addresses : List ℕ) (asserts : List (ℕ × ℕ)) (i : ℕ) (codes more : List Code) (c : Code) →
+    AreCodes p bank noted addresses asserts i codes →
+    more ≡ codes ++ c ∷ [] → IsCodeOf p bank noted (get_or addresses i 0) asserts c → AreCodes p bank noted addresses asserts (i + 1) more
+codes_more p bank noted addresses asserts i codes more c are is of = record {
   count = (let a = push_length codes more c is in let b = are.count in omega arith);
-  each = λ j d w. elim (cases_lt j i) as (λ _. IsCodeOf p bank always (get_or addresses j 0) asserts (get_or more j d)) [
+  each = λ j d w. elim (cases_lt j i) as (λ _. IsCodeOf p bank noted (get_or addresses j 0) asserts (get_or more j d)) [
     | inl low ↦
         let count = are.count in
         let same : get_or more j d ≡ get_or codes j d = ap (λ (l : List Code). get_or l j d) is ∙ or_left codes (c ∷ []) j d (omega arith) in
-        subst (λ (z : Code). IsCodeOf p bank always (get_or addresses j 0) asserts z) (sym same) (are.each j d low)
+        subst (λ (z : Code). IsCodeOf p bank noted (get_or addresses j 0) asserts z) (sym same) (are.each j d low)
     | inr high ↦
         let here : j ≡ i = omega arith in
         let last : get_or more i d ≡ c = ap (λ (l : List Code). get_or l i d) is ∙ ap
         (λ (z : ℕ). get_or (codes ++ c ∷ []) z d) (sym are.count) ∙ or_last codes c d in
-        subst (λ (z : ℕ). IsCodeOf p bank always (get_or addresses z 0) asserts (get_or more z d)) (sym here) (subst
-        (λ (z : Code). IsCodeOf p bank always (get_or addresses i 0) asserts z) (sym last) of)
+        subst (λ (z : ℕ). IsCodeOf p bank noted (get_or addresses z 0) asserts (get_or more z d)) (sym here) (subst
+        (λ (z : Code). IsCodeOf p bank noted (get_or addresses i 0) asserts z) (sym last) of)
   ];
 }
 
@@ -48,9 +48,9 @@ codes_more p bank always addresses asserts i codes more c are is of = record {
 pub of_nodes : (p : Program) (g : Graph) (n : Node) → IsGraph p g → Contains g.nodes.items n → IsNode p n
 of_nodes p g n is (i, w, e) = subst (IsNode p) e (is.nodes i n w)
 
--- and keeps the assignments that are live, and those of a set, where the graph does
-pub kept_of_nodes : (p : Program) (always : ℕ) (g : Graph) (n : Node) → LiveStayWith p always g → Contains g.nodes.items n → IsKeptWith p always n
-kept_of_nodes p always g n live (i, w, e) = subst (IsKeptWith p always) e (live i n w)
+-- and keeps the assignments that are live, where the graph does
+pub kept_of_nodes : (p : Program) (noted : List frames.Contract) (g : Graph) (n : Node) → LiveStayWith p noted g → Contains g.nodes.items n → IsKeptWith p noted n
+kept_of_nodes p noted g n live (i, w, e) = subst (IsKeptWith p noted) e (live i n w)
 
 -- codes of contract steps
 pub steps_none : (contracts : List Contract) (stepped steps : List ℕ) (codes : List Code) → codes ≡ codes ++ step_codes contracts stepped (take 0 steps)

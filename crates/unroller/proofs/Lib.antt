@@ -30,7 +30,6 @@ pub mod Numbered
 pub mod Ordered
 pub mod Placed
 pub mod Places
-pub mod ReadFlags
 pub mod RootPlaces
 pub mod RowEdges
 pub mod SameKeys

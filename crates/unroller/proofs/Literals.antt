@@ -1,5 +1,5 @@
 -- The list of a row without the assignments of flags that are not live, and with the constant of a kept literal in place of its load.
-use Rattle.std.proofs.Common.{◌≡◌, inl, inr, refl, ap, sym, ◌∙◌, subst, arith, ℕ, ◌<◌, ◌≤◌, ◌^◌, Option, Some, None, Bool, true, false, List, [], ◌∷◌}
+use Rattle.std.proofs.Common.{◌≡◌, refl, ap, sym, ◌∙◌, subst, arith, ℕ, ◌<◌, ◌≤◌, ◌^◌, Option, Some, None, Bool, true, false, List, [], ◌∷◌}
 use Rattle.std.specs.Prelude.{if◌then◌else◌, ◌&&◌, nat_eq, nat_lt, ◌↔◌, Contains}
 use Rattle.std.specs.List.{list_any}
 use Rattle.std.specs.Global.{Vec}
@@ -13,11 +13,12 @@ use Rattle.machine_spec.specs.BilMeaning.{Ending, execute}
 use Rattle.machine_spec.specs.BilStores.{list_stored}
 use Rattle.bilv_spec.specs.Run.{Program, all_kept, literal_target}
 use Rattle.bilv_spec.specs.Points.{file_row, file_word, file_number, is_empty}
-use Rattle.bilv_spec.specs.LiveFlags.{IsLive, assigns_by, reads_by, surely_by}
+use Rattle.bilv_spec.specs.LiveFlags.{assigns_by, reads_by, surely_by}
 use Rattle.bil_ast.specs.declared.statements.Stmt.{Stmt}
 use Rattle.bil_ast.specs.Views.{statements}
 use Rattle.graph_nodes.specs.Graphs.{has_flag}
-use Rattle.question_form.specs.Views.{action_of}
+use Rattle.flag_live.specs.Contracted.{IsLiveWith}
+use Rattle.question_form.specs.FrameViews.{list_of}
 use Rattle.frame_spec.specs.Frames.{Contract, Content}
 use Rattle.frame_spec.specs.FrameUnrolling.{IsCarriedOf, IsRead, IsReadAfter, by_row, later, LeavesAs, IsRunnable, is_variable_of}
 use Rattle.frame_spec.specs.FrameWalk.{Action, Executes, UnrolledPoint, UnrolledProgram, leaving_by, left_by, stored_by}
@@ -28,8 +29,7 @@ use Rattle.bil_trim.specs.Parts.{HasNoMore}
 use Rattle.bil_trim.proofs.Quiet.{literals_keep_meaning, nothing_stored}
 use Rattle.bil_trim.proofs.Fewer.{flags_add_nothing}
 use Rattle.bil_trim.proofs.NoMore.{literals_add_nothing, literals_assign_the_same}
-use Rattle.unroller.specs.Rows.{kept_literal, list_with, CanBeRead, IsCosted, IsListAt, IsListOf, IsListedAt, IsListWith, ListsDoRows, may_assign_in}
-use Rattle.unroller.proofs.ReadFlags.{after_to}
+use Rattle.unroller.specs.Rows.{kept_literal, list_with, IsCosted, IsListAt, IsListOf, IsListedAt, ListsDoRows, may_assign_in}
 use Rattle.unroller.proofs.Rows.{begins}
 use Rattle.unroller.proofs.Dropped.{leaves_trimmed, stores_trimmed}
 use Rattle.unroller.proofs.Mixed.{both}
@@ -138,14 +138,10 @@ module _ (p : Program) (u : UnrolledProgram) (bank : Bank) (q : UnrolledPoint) (
       (subst (λ (z : ℕ). z ≤ q.loads) (sym (law.1 (no_others a (of_kept p (row.literal q.point.at) a k).0))) (omega arith)) counted
 
 -- an assignment stays that is read later
-module _ (p : Program) (bank : Bank) (contracts : List Contract) (always at : ℕ) (row : Row) (list : Statements) (is : file_row p at ≡ Some row)
-    (listed : IsListWith p bank always row at list) where
-  stays_by : CanBeRead contracts always → (f : ℕ) → f < 4 → row.flags.assigns f ≡ true → IsReadAfter p contracts f at → has_flag listed.keeps f ≡ true
-  stays_by (inl none) f few assigns after = listed.live f few (record {
-    assigns = ap (λ (o : Option Row). assigns_by f o) is ∙ assigns;
-    read = after_to p f at (subst (λ (l : List Contract). IsReadAfter p l f at) none after);
-  })
-  stays_by (inr all) f few assigns after = listed.besides f few (all f few)
+module _ (p : Program) (bank : Bank) (contracts : List Contract) (at : ℕ) (row : Row) (list : Statements) (is : file_row p at ≡ Some row)
+    (listed : IsListAt p bank contracts row at list) where
+  stays_by : (f : ℕ) → f < 4 → row.flags.assigns f ≡ true → IsReadAfter p contracts f at → has_flag listed.keeps f ≡ true
+  stays_by f few assigns after = (listed.live f few).1 (record { assigns = ap (λ (o : Option Row). assigns_by f o) is ∙ assigns; read = after })
 
   read_now : (f : ℕ) → row.flags.reads f ≡ true → IsRead p contracts f at
   read_now f e = by_row (ap (λ (o : Option Row). reads_by f o) is ∙ e)
@@ -154,7 +150,7 @@ module _ (p : Program) (bank : Bank) (contracts : List Contract) (always at : �
   read_later f e r = later (ap (λ (o : Option Row). surely_by f o) is ∙ e) r
 
 pub lists_do_rows : ListsDoRows
-lists_do_rows p contracts u form bank always q row list fitted registers flags is lawful listed read does long counted =
+lists_do_rows p contracts u form bank q row list fitted registers flags is lawful listed does long counted =
     let o = kept_literal p (row.literal q.point.at) in
     let at = q.point.at in
     let keeps = kept_in listed.keeps in
@@ -164,9 +160,9 @@ lists_do_rows p contracts u form bank always q row list fitted registers flags i
     let all = does ∙ ap (λ (z : Statements). Executes z) listed.is in
     let Reads : ℕ → Type 0 = λ f. IsRead p contracts f at in
     let After : ℕ → Type 0 = λ f. IsReadAfter p contracts f at in
-    let now = read_now p bank contracts always at row list is listed in
-    let behind = read_later p bank contracts always at row list is listed in
-    let stays = stays_by p bank contracts always at row list is listed read in (
+    let now = read_now p bank contracts at row list is listed in
+    let behind = read_later p bank contracts at row list is listed in
+    let stays = stays_by p bank contracts at row list is listed in (
       record {
         length = long;
         lists = (list, does);
@@ -195,41 +191,26 @@ assigns_with : (p : Program) (f : ℕ) (o : Option ℕ) (list : Statements) → 
 assigns_with p f None list = refl
 assigns_with p f (Some a) list = literals_assign_the_same p.machine.endian a (file_number p a) f list
 
--- where none of the flags stays besides, the list is that of the live ones
-live_alone : (p : Program) (bank : Bank) (always : ℕ) (row : Row) (at : ℕ) (list : Statements) → ((f : ℕ) → f < 4 → has_flag always f ≡ false) →
-    IsListWith p bank always row at list → IsListAt p bank row at list
-live_alone p bank always row at list none listed = record {
-  lifted = listed.lifted;
-  lifting = listed.lifting;
-  keeps = listed.keeps;
-  live = λ f few. (
-    (λ h. elim (listed.only f few h) as (λ _. IsLive p f at) [ inl live ↦ live | inr other ↦ absurd (let z = none f few in cc) ]),
-    listed.live f few,
-  );
-  is = listed.is;
-  word = listed.word;
-}
-
 -- the list of a row assigns no flag whose assignment there is not live
-list_is_lean : (p : Program) (bank : Bank) (row : Row) (at f : ℕ) (list : Statements) → IsListAt p bank row at list → f < 4 → may_assign f list ≡ true →
-    IsLive p f at
-list_is_lean p bank row at f list listed low h =
+list_is_lean : (p : Program) (bank : Bank) (contracts : List Contract) (row : Row) (at f : ℕ) (list : Statements) → IsListAt p bank contracts row at list →
+    f < 4 → may_assign f list ≡ true → IsLiveWith p contracts f at
+list_is_lean p bank contracts row at f list listed low h =
     let keeps = kept_in listed.keeps in
     let kept : (keeps f && may_assign f listed.lifted) ≡ true =
     sym ((flags_add_nothing keeps listed.lifted).assigns f) ∙ sym (assigns_with p f (kept_literal p (row.literal at)) (with_flags keeps listed.lifted))
     ∙ ap (λ (z : Statements). may_assign f z) (sym listed.is) ∙ h in
     (listed.live f low).0 (both (nat_lt f 4) (has_flag listed.keeps f) (both (keeps f) (may_assign f listed.lifted) kept).0).1
 
-module _ (p : Program) (bank : Bank) (always : ℕ) (none : (f : ℕ) → f < 4 → has_flag always f ≡ false) where
-  pub code_is_lean : (o : Option Row) (at f : ℕ) (list : Option (Vec Stmt)) → IsListedAt p bank always o at list → f < 4 →
-      may_assign_in f (action_of list) ≡ true → IsLive p f at
+module _ (p : Program) (bank : Bank) (contracts : List Contract) where
+  pub code_is_lean : (o : Option Row) (at f : ℕ) (list : Option (Vec Stmt)) → IsListedAt p bank contracts o at list → f < 4 →
+      may_assign_in f (list_of list) ≡ true → IsLiveWith p contracts f at
   code_is_lean o at f None listed low h = absurd (cc)
   code_is_lean None at f (Some v) listed low h = absurd listed
-  code_is_lean (Some row) at f (Some v) listed low h =
-      list_is_lean p bank row at f (statements v.items) (live_alone p bank always row at (statements v.items) none listed) low h
+  code_is_lean (Some row) at f (Some v) listed low h = list_is_lean p bank contracts row at f (statements v.items) listed low h
 
-  pub code_is_listed : (o : Option Row) (at : ℕ) (list : Option (Vec Stmt)) → IsListedAt p bank always o at list → IsListOf p bank o at (action_of list)
+  pub code_is_listed : (o : Option Row) (at : ℕ) (list : Option (Vec Stmt)) → IsListedAt p bank contracts o at list →
+      IsListOf p bank contracts o at (list_of list)
   code_is_listed None at None listed = refl
   code_is_listed None at (Some v) listed = absurd listed
   code_is_listed (Some row) at None listed = absurd listed
-  code_is_listed (Some row) at (Some v) listed = live_alone p bank always row at (statements v.items) none listed
+  code_is_listed (Some row) at (Some v) listed = listed

@@ -27,11 +27,11 @@ use Rattle.program_points.specs.Tables.{stack_at}
 use Rattle.question_form.specs.FrameViews.{anchor_at, checks_between, edge_of, frame_unrolled_of, gift_of, is_judged, list_of, own_contract, point_by, stepped_at, top_of}
 use Rattle.question_form.specs.Views.{unrolled_of}
 use Rattle.unroller.specs.Places.{IsCode, deed_by, step_code, PlacesAreRight, StepsAreRight}
-use Rattle.unroller.specs.Rows.{CanBeRead, IsCosted, IsListedAt, IsListWith}
+use Rattle.unroller.specs.Rows.{IsCosted, IsListAt, IsListedAt}
 use Rattle.unroller.proofs.Literals.{lists_do_rows}
 
-module _ (f : Frame) (k : ℕ) (u : Unrolled) (form : Layout) (bank : Bank) (always i root turns coded stack begin : ℕ) (edges : List Edge)
-    (contracts : List Contract) (own : f.own ≡ own_contract u) (read : CanBeRead contracts always)
+module _ (f : Frame) (k : ℕ) (u : Unrolled) (form : Layout) (bank : Bank) (i root turns coded stack begin : ℕ) (edges : List Edge)
+    (contracts : List Contract) (own : f.own ≡ own_contract u)
     (fitted : IsFitted f.program.machine form) (registers : (r : ℕ) → is_register_of (unrolled_of u) r ≡ f.program.machine.has_register r)
     (flags : (g : ℕ) → is_flag_of (unrolled_of u) g ≡ f.program.machine.has_flag g) where
   abbrev p : Program
@@ -52,7 +52,7 @@ module _ (f : Frame) (k : ℕ) (u : Unrolled) (form : Layout) (bank : Bank) (alw
   abbrev judged : Code → List PointExit → List PointExit
   judged c rest = map FalseCheck (checks_of f (made deeds.Row c).point) ++ rest
 
-  exits_are : (c : Code) → IsCode f bank always u (point deeds.Row) c edges → (rest : List PointExit) → exits c rest ≡ judged c rest
+  exits_are : (c : Code) → IsCode f bank contracts u (point deeds.Row) c edges → (rest : List PointExit) → exits c rest ≡ judged c rest
   exits_are c code rest = ap (λ (l : List Check). map FalseCheck l ++ rest) code.checks
 
   row_by : (at size : ℕ) (fetch : Bool) (list : Option (Vec Stmt)) (draws : Bool) (row loads stores : ℕ) (asserts : ℕ × ℕ) →
@@ -68,7 +68,7 @@ module _ (f : Frame) (k : ℕ) (u : Unrolled) (form : Layout) (bank : Bank) (alw
         asserts =
             asserts;
       } in
-      IsCode f bank always u (point deeds.Row) c edges →
+      IsCode f bank contracts u (point deeds.Row) c edges →
       ((r : Row) → file_row p at ≡ Some r → AreAlong f k w i (made deeds.Row c).point (Some r) (map (edge_of u) edges)) →
       (o : Option Row) → file_row p at ≡ o → DoesAddress f contracts k w i (made deeds.Row c) o × CanBeTerms w (made deeds.Row c) (list_of list)
   row_by at size fetch None draws row loads stores asserts code led None is =
@@ -104,9 +104,9 @@ module _ (f : Frame) (k : ℕ) (u : Unrolled) (form : Layout) (bank : Bank) (alw
         },
       )
   row_by at size fetch None draws row loads stores asserts code led (Some r) is = absurd (subst
-      (λ (z : Option Row). IsListedAt p bank always z at None) is code.own.list)
+      (λ (z : Option Row). IsListedAt p bank contracts z at None) is code.own.list)
   row_by at size fetch (Some v) draws row loads stores asserts code led None is = absurd (subst
-      (λ (z : Option Row). IsListedAt p bank always z at (Some v)) is code.own.list)
+      (λ (z : Option Row). IsListedAt p bank contracts z at (Some v)) is code.own.list)
   row_by at size fetch (Some v) draws row loads stores asserts code led (Some r) is =
       let c : Code = record {
         at = at;
@@ -128,8 +128,8 @@ module _ (f : Frame) (k : ℕ) (u : Unrolled) (form : Layout) (bank : Bank) (alw
         loads = code.own.loads ∙ ap (λ (z : Option Row). loads_at p at z) is;
         stores = code.own.stores ∙ ap stores_at is;
       } in
-      let listed : IsListWith p bank always r at (statements v.items) = subst (λ (z : Option Row). IsListedAt p bank always z at (Some v)) is code.own.list in
-      let law = lists_do_rows p contracts w form bank always x r (statements v.items) fitted registers flags is (code.own.fit r is) listed read refl
+      let listed : IsListAt p bank contracts r at (statements v.items) = subst (λ (z : Option Row). IsListedAt p bank contracts z at (Some v)) is code.own.list in
+      let law = lists_do_rows p contracts w form bank x r (statements v.items) fitted registers flags is (code.own.fit r is) listed refl
       (code.own.length ∙ ap row_length is) costed in (
         (
           map (edge_of u) edges,
@@ -141,13 +141,13 @@ module _ (f : Frame) (k : ℕ) (u : Unrolled) (form : Layout) (bank : Bank) (alw
         law.1,
       )
 
-  counted_row : (c : Code) → IsCode f bank always u (point deeds.Row) c edges → IsCounted f (made deeds.Row c)
+  counted_row : (c : Code) → IsCode f bank contracts u (point deeds.Row) c edges → IsCounted f (made deeds.Row c)
   counted_row c code = record { draws = code.own.draws; row = code.own.row; loads = code.own.loads; stores = code.own.stores }
 
-  counted_arrival : (c : Code) → IsCode f bank always u (point deeds.Row) c edges → IsCounted f (made deeds.Arrival c)
+  counted_arrival : (c : Code) → IsCode f bank contracts u (point deeds.Row) c edges → IsCounted f (made deeds.Arrival c)
   counted_arrival c code = record { draws = code.own.draws; row = code.own.row; loads = code.own.loads; stores = code.own.stores }
 
-  place_by : (c : Code) → IsCode f bank always u (point deeds.Row) c edges → (cut : Bool) → is_cut f (made deeds.Row c).point ≡ cut →
+  place_by : (c : Code) → IsCode f bank contracts u (point deeds.Row) c edges → (cut : Bool) → is_cut f (made deeds.Row c).point ≡ cut →
       (cut ≡ false → (r : Row) → file_row p c.at ≡ Some r → AreAlong f k w i (made deeds.Row c).point (Some r) (map (edge_of u) edges)) →
       IsPlace f contracts k w i (made (deed_by cut) c)
   place_by c code true is led = record {
@@ -164,10 +164,10 @@ module _ (f : Frame) (k : ℕ) (u : Unrolled) (form : Layout) (bank : Bank) (alw
       }
 
 pub places_are_right : PlacesAreRight
-places_are_right f contracts k u form bank always i q c edges own fitted registers flags read code deed led =
+places_are_right f contracts k u form bank i q c edges own fitted registers flags code deed led =
     subst (λ (d : Deed). IsPlace f contracts k (frame_unrolled_of u) i
     (point_by u (record { root = q.root; turns = q.turns; code = q.code; stack = q.stack; deed = d; edges = q.edges }) c edges)) (sym deed)
-    (place_by f k u form bank always i q.root q.turns q.code q.stack q.edges edges contracts own read fitted registers flags c
+    (place_by f k u form bank i q.root q.turns q.code q.stack q.edges edges contracts own fitted registers flags c
     (record { own = code.own; checks = code.checks }) (is_cut f (point_by u q c edges).point) refl
     (λ uncut r some.
     subst (λ (d : Deed). AreAlong f k (frame_unrolled_of u) i

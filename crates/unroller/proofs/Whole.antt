@@ -12,7 +12,6 @@ use Rattle.machine_spec.specs.MachineLaws.{IsFitted}
 use Rattle.machine_spec.specs.Bil.{Bank}
 use Rattle.bilv_spec.specs.Run.{Program, all_kept}
 use Rattle.bilv_spec.specs.Points.{file_row}
-use Rattle.bilv_spec.specs.LiveFlags.{IsLive}
 use Rattle.bilv_spec.proofs.PointSteps.{in_map}
 use Rattle.bilv_spec.proofs.PointsInGraph.{of_filter, of_map}
 use Rattle.frame_spec.specs.Frames.{Contract, Frame, contract_at}
@@ -23,9 +22,10 @@ use Rattle.frame_spec.specs.FrameWalk as walk
 use Rattle.frame_spec.specs.FrameWalk.{UnrolledPoint, UnrolledProgram, no_point, point_at, root_at}
 use Rattle.frame_spec.proofs.OfSegments.{heads as some_heads}
 use Rattle.frame_laws.proofs.FrameAnswers.{head_anchor}
+use Rattle.flag_live.specs.Contracted.{IsLiveWith}
 use Rattle.graph_nodes.specs.declared.nodes.Node.{Node}
 use Rattle.graph_nodes.specs.declared.nodes.Graph.{Graph}
-use Rattle.graph_nodes.specs.Graphs.{addresses_of, has_flag}
+use Rattle.graph_nodes.specs.Graphs.{addresses_of}
 use Rattle.graph_nodes.proofs.Places.{at_is}
 use Rattle.notes_value.specs.declared.notes.Contract.{Contract as Declared}
 use Rattle.notes_value.specs.FrameViews.{contract_of as shown_contract}
@@ -50,7 +50,7 @@ use Rattle.question_form.specs.declared.unrolled.Unrolled.{Unrolled}
 use Rattle.question_form.specs.Views as views
 use Rattle.question_form.specs.Views.{code_of, edges_from, no_code, unrolled_of}
 use Rattle.question_form.specs.FrameViews as shown
-use Rattle.question_form.specs.FrameViews.{anchor_at, checks_between, edge_of, frame_unrolled_of, is_contract, is_headless, is_judged, no_contract, no_root, own_contract, point_by, stepped_at}
+use Rattle.question_form.specs.FrameViews.{action_of, anchor_at, checks_between, edge_of, frame_unrolled_of, is_contract, is_headless, is_judged, no_contract, no_root, own_contract, point_by, stepped_at}
 use Rattle.question_form.specs.Forms.{AreBounds, AreRootsFormed, AreStepsFormed, IsAimFormed, IsFormed}
 use Rattle.unroller.specs.Keys.{root_of, turns_of, address_of, stack_of, contract_of, is_of, place_in, head_of, anchor_by, point_of, AreKeys, AreSegments, IsFrameOf}
 use Rattle.unroller.specs.Led.{AreBackLed, AreRowLed, IsAimFor, IsCalledBy, IsCoded, IsNoneCalled, AreCalled, IsLeft, IsPlacedAt, ArePlaced, begins_at, deed_at, is_arrival}
@@ -59,7 +59,7 @@ use Rattle.unroller.specs.Steps.{AreAllCodes, step_codes}
 use Rattle.unroller.specs.RootPoints as points
 use Rattle.unroller.specs.RootPoints.{BeginAtOwn, IsEntryFirst}
 use Rattle.unroller.specs.Roots.{AreRoots, IsGroupOf, IsRootAt}
-use Rattle.unroller.specs.Rows.{CanBeRead, literal_by, literal_at, AreLiterals, AssignsLiveOnly, HasListsOf, IsListOf, may_assign_in}
+use Rattle.unroller.specs.Rows.{literal_by, literal_at, AreLiterals, AssignsLiveOnly, HasListsOf, IsListOf, may_assign_in}
 use Rattle.unroller.proofs.Coding.{of_nodes}
 use Rattle.program_points.proofs.Lists.{or_left}
 use Rattle.program_points.proofs.Stacked.{stack_none}
@@ -91,14 +91,13 @@ begins_same u [] = refl
 begins_same u (q ∷ ps) = refl
 
 -- what the value is made of, and what is known of it
-pub record IsMade (f : Frame) (contracts : List Contract) (k : ℕ) (bank : Bank) (always : ℕ) (g : Graph) (u : Unrolled) (numbers : BTreeMap (ℕ × ℕ) ℕ)
+pub record IsMade (f : Frame) (contracts : List Contract) (k : ℕ) (bank : Bank) (g : Graph) (u : Unrolled) (numbers : BTreeMap (ℕ × ℕ) ℕ)
     (heads stepped segments keys rows steps called : List ℕ) : Type 0 where
   pub of : IsFrameOf f g heads stepped u.entry
   pub low : k ≤ 4096
   pub own : f.own ≡ own_contract u
   pub over : f.stepped ≡ map shown_contract u.stepped.now
   pub ats : stepped ≡ map (λ (x : Declared). x.at) u.stepped.now
-  pub read : CanBeRead contracts always
   pub cuts : f.cuts ≡ true
   pub invariants : u.invariants.now ≡ f.invariants
   pub fitted : IsFitted f.program.machine (layout_of u.form)
@@ -109,7 +108,7 @@ pub record IsMade (f : Frame) (contracts : List Contract) (k : ℕ) (bank : Bank
   pub segs : AreSegments f k u.frames.items segments
   pub are : AreKeys f k u.frames.items segments keys
   pub calls : AreCalled g keys u.frames.items (length keys) called
-  pub codes : AreAllCodes f.program bank always u.stepped.now stepped rows steps u.asserts.items u.codes.items
+  pub codes : AreAllCodes f.program bank contracts u.stepped.now stepped rows steps u.asserts.items u.codes.items
   pub placed : ArePlaced g heads stepped u.asserts.items u.frames.items keys rows steps called (length keys) u.points.items u.edges.items
   pub roots : AreRoots segments keys u.asserts.items u.entry (length segments) u.roots.items
   pub index : (at : ℕ) → filter (λ x. x.0 == at) u.asserts.items
@@ -169,9 +168,9 @@ its_anchor : (entry : ℕ) (anchor : Anchor) → is_entry anchor ≡ true → an
 its_anchor entry AtEntry h = refl
 its_anchor entry (AtHead stack a) h = absurd (cc)
 
-module _ (f : Frame) (contracts : List Contract) (k : ℕ) (bank : Bank) (always : ℕ) (g : Graph) (u : Unrolled) (numbers : BTreeMap (ℕ × ℕ) ℕ)
+module _ (f : Frame) (contracts : List Contract) (k : ℕ) (bank : Bank) (g : Graph) (u : Unrolled) (numbers : BTreeMap (ℕ × ℕ) ℕ)
     (heads stepped segments keys rows steps called : List ℕ)
-    (made : IsMade f contracts k bank always g u numbers heads stepped segments keys rows steps called) where
+    (made : IsMade f contracts k bank g u numbers heads stepped segments keys rows steps called) where
   abbrev p : Program
   p = f.program
 
@@ -226,14 +225,14 @@ module _ (f : Frame) (contracts : List Contract) (k : ℕ) (bank : Bank) (always
       by false e true h = h
       by false e false h = h
 
-  row_code : (i : ℕ) → i < length keys → contract_of (key i) ≡ false → IsCodeOf p bank always (get_or rows (own i).code 0) u.asserts.items (code i)
+  row_code : (i : ℕ) → i < length keys → contract_of (key i) ≡ false → IsCodeOf p bank contracts (get_or rows (own i).code 0) u.asserts.items (code i)
   row_code i l e =
       let c = made.codes in
       let low = (coded_row i l e).0 in
       let same : code i ≡ get_or c.of_rows (own i).code no_code =
       ap (λ (xs : List Code). get_or xs (own i).code no_code) c.is
       ∙ or_left c.of_rows (step_codes u.stepped.now stepped steps) (own i).code no_code (let n = c.are.count in omega arith) in
-      subst (λ (z : Code). IsCodeOf p bank always (get_or rows (own i).code 0) u.asserts.items z) (sym same) (c.are.each (own i).code no_code low)
+      subst (λ (z : Code). IsCodeOf p bank contracts (get_or rows (own i).code 0) u.asserts.items z) (sym same) (c.are.each (own i).code no_code low)
 
   -- and of contract steps
   coded_step : (i : ℕ) → i < length keys → contract_of (key i) ≡ true →
@@ -392,7 +391,7 @@ module _ (f : Frame) (contracts : List Contract) (k : ℕ) (bank : Bank) (always
 
   place_by : (i : ℕ) → i < length keys → (b : Bool) → contract_of (key i) ≡ b → IsPlace f contracts k w i (here i)
   place_by i l false e =
-      places_are_right f contracts k u (layout_of u.form) bank always i (own i) (code i) (led i) made.own made.fitted made.registers made.flags made.read
+      places_are_right f contracts k u (layout_of u.form) bank i (own i) (code i) (led i) made.own made.fitted made.registers made.flags
       (record { own = (row_code i l e).row; checks = checks_are i l e }) ((at i l).deed ∙ row_deed i l e) (edges_are i l e)
   place_by i l true e =
       let x = contract i in
@@ -422,21 +421,46 @@ module _ (f : Frame) (contracts : List Contract) (k : ℕ) (bank : Bank) (always
   table_is : (i : ℕ) → i < length keys → tables.point_at (unrolled_of u) i ≡ views.point_by u (own i) (code i) (led i)
   table_is i l = (points_are_at u).1 i (own i) (own_at i l)
 
-  module _ (none_stepped : f.stepped ≡ []) (none_kept : (n : ℕ) → n < 4 → has_flag always n ≡ false) where
-    pub lists : HasListsOf p bank (unrolled_of u)
-    lists i low =
-        let inside : i < length keys = (let s = tables_size in omega arith) in
-        subst (λ (z : tables.UnrolledPoint). IsListOf p bank (file_row p z.point.at) z.point.at z.does) (sym (table_is i inside))
-        (code_is_listed p bank always none_kept (file_row p (code i).at) (code i).at (code i).list
-        (row_code i inside (no_step none_stepped i inside)).row.list)
+  -- a point at which a list is done is one of a row
+  row_only : (i : ℕ) → i < length keys → (own i).deed ≡ deeds.Row → contract_of (key i) ≡ false
+  row_only i l e =
+      sym (deed_step (contract_of (key i)) (is_arrival heads (key i)) (place_in stepped (address_of (key i)))) ∙ ap is_contract (sym (at i l).deed ∙ e)
 
-    pub lean : AssignsLiveOnly p (unrolled_of u)
-    lean i n l low h =
-        let inside : i < length keys = (let s = tables_size in omega arith) in
-        let e = table_is i inside in
-        subst (λ (z : tables.UnrolledPoint). IsLive p n z.point.at) (sym e)
-        (code_is_lean p bank always none_kept (file_row p (code i).at) (code i).at n (code i).list
-        (row_code i inside (no_step none_stepped i inside)).row.list low (ap (λ (z : tables.UnrolledPoint). may_assign_in n z.does) (sym e) ∙ h))
+  abbrev does : ℕ → Deed → walk.Action
+  does i d = action_of u d (code i).list (stack_at frames (own i).stack)
+
+  listed_by : (i : ℕ) → i < length keys → (d : Deed) → (own i).deed ≡ d → IsListOf p bank contracts (file_row p (code i).at) (code i).at (does i d)
+  listed_by i l deeds.Row e =
+      code_is_listed p bank contracts (file_row p (code i).at) (code i).at (code i).list (row_code i l (row_only i l e)).row.list
+  listed_by i l deeds.Arrival e = no_list (file_row p (code i).at)
+    where
+      no_list : (o : Option Row) → IsListOf p bank contracts o (code i).at walk.Arrives
+      no_list None = tt
+      no_list (Some row) = tt
+  listed_by i l (deeds.Contract n) e = no_list (file_row p (code i).at)
+    where
+      no_list : (o : Option Row) → IsListOf p bank contracts o (code i).at (does i (deeds.Contract n))
+      no_list None = tt
+      no_list (Some row) = tt
+
+  pub lists : HasListsOf p bank contracts w
+  lists i low =
+      let inside : i < length keys = (let s = size in omega arith) in
+      subst (λ (z : UnrolledPoint). IsListOf p bank contracts (file_row p z.point.at) z.point.at z.does) (sym (point_is i inside))
+      (listed_by i inside (own i).deed refl)
+
+  lean_by : (i n : ℕ) → i < length keys → n < 4 → (d : Deed) → (own i).deed ≡ d → may_assign_in n (does i d) ≡ true → IsLiveWith p contracts n (code i).at
+  lean_by i n l low deeds.Row e h =
+      code_is_lean p bank contracts (file_row p (code i).at) (code i).at n (code i).list (row_code i l (row_only i l e)).row.list low h
+  lean_by i n l low deeds.Arrival e h = absurd (cc)
+  lean_by i n l low (deeds.Contract m) e h = absurd (cc)
+
+  pub lean : AssignsLiveOnly p contracts w
+  lean i n l low h =
+      let inside : i < length keys = (let s = size in omega arith) in
+      let e = point_is i inside in
+      subst (λ (z : UnrolledPoint). IsLiveWith p contracts n z.point.at) (sym e)
+      (lean_by i n inside low (own i).deed refl (ap (λ (z : UnrolledPoint). may_assign_in n z.does) (sym e) ∙ h))
 
   pub words : (i : ℕ) → i < length (unrolled_of u).points → (tables.point_at (unrolled_of u) i).point.at < 2 ^ 32
   words i l =

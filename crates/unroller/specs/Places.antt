@@ -22,14 +22,14 @@ use Rattle.question_form.specs.declared.unrolled.Point as declared
 use Rattle.question_form.specs.declared.unrolled.Unrolled.{Unrolled}
 use Rattle.question_form.specs.FrameViews.{anchor_at, checks_between, edge_of, frame_unrolled_of, is_judged, own_contract, point_by, stepped_at}
 use Rattle.question_form.specs.Views.{unrolled_of}
-use Rattle.unroller.specs.Rows.{CanBeRead, IsListedAt}
+use Rattle.unroller.specs.Rows.{IsListedAt}
 
--- The code is that of its address, whatever its assert lines are: what the file gives there, the list of the row, in which the assignments of a set of flags stay
--- besides the live ones, and the row's cost; and the row is lawful.
-pub record IsRowCode (p : Program) (bank : Bank) (always : ℕ) (c : Code) : Type 0 where
+-- The code is that of its address, whatever its assert lines are: what the file gives there, the list of the row, without assignments of flags that are
+-- not live, and the row's cost; and the row is lawful.
+pub record IsRowCode (p : Program) (bank : Bank) (contracts : List Contract) (c : Code) : Type 0 where
   pub length : c.length ≡ row_length (file_row p c.at)
   pub fetchable : c.fetchable ≡ fetchable p (file_word p c.at) c.at
-  pub list : IsListedAt p bank always (file_row p c.at) c.at c.list
+  pub list : IsListedAt p bank contracts (file_row p c.at) c.at c.list
   pub draws : c.draws ≡ row_draws (file_row p c.at)
   pub row : c.row ≡ row_price (file_row p c.at)
   pub loads : c.loads ≡ loads_at p c.at (file_row p c.at)
@@ -37,8 +37,8 @@ pub record IsRowCode (p : Program) (bank : Bank) (always : ℕ) (c : Code) : Typ
   pub fit : (row : Row) → file_row p c.at ≡ Some row → IsLawful row
 
 -- the code is that of its address, with the checks by the assert lines there that are judged at the point
-pub record IsCode (f : Frame) (bank : Bank) (always : ℕ) (u : Unrolled) (q : declared.Point) (c : Code) (edges : List Edge) : Type 0 where
-  pub own : IsRowCode f.program bank always c
+pub record IsCode (f : Frame) (bank : Bank) (contracts : List Contract) (u : Unrolled) (q : declared.Point) (c : Code) (edges : List Edge) : Type 0 where
+  pub own : IsRowCode f.program bank contracts c
   pub checks : filter (is_judged (anchor_at u q.root)) (checks_between u c.asserts) ≡ checks_of f (point_by u q c edges).point
 
 -- what is done at a point: nothing, where the segment of the entry ends there
@@ -48,10 +48,10 @@ deed_by false = RowDeed
 
 -- A point of the code of its address, with its edges, at which no contract step is made, is what the frame has at its place.
 abbrev pub PlacesAreRight : Type 0
-PlacesAreRight = (f : Frame) (contracts : List Contract) (k : ℕ) (u : Unrolled) (form : Layout) (bank : Bank) (always i : ℕ) (q : declared.Point) (c : Code)
+PlacesAreRight = (f : Frame) (contracts : List Contract) (k : ℕ) (u : Unrolled) (form : Layout) (bank : Bank) (i : ℕ) (q : declared.Point) (c : Code)
     (edges : List Edge) →
     f.own ≡ own_contract u → IsFitted f.program.machine form → ((r : ℕ) → is_register_of (unrolled_of u) r ≡ f.program.machine.has_register r) →
-    ((g : ℕ) → is_flag_of (unrolled_of u) g ≡ f.program.machine.has_flag g) → CanBeRead contracts always → IsCode f bank always u q c edges →
+    ((g : ℕ) → is_flag_of (unrolled_of u) g ≡ f.program.machine.has_flag g) → IsCode f bank contracts u q c edges →
     q.deed ≡ deed_by (is_cut f (point_by u q c edges).point) →
     (is_cut f (point_by u q c edges).point ≡ false → (row : Row) → file_row f.program c.at ≡ Some row →
     AreAlong f k (frame_unrolled_of u) i (point_by u q c edges).point (Some row) (map (edge_of u) edges)) →
@@ -88,12 +88,12 @@ pub record IsGroup (index : List (ℕ × ℕ)) (at : ℕ) (bounds : ℕ × ℕ) 
   pub behind : AllWithin (λ x. at < x.0) index bounds.1 (length index)
 
 -- the code is that of an address, with its part of the assert lines by address
-pub record IsCodeOf (p : Program) (bank : Bank) (always at : ℕ) (asserts : List (ℕ × ℕ)) (c : Code) : Type 0 where
+pub record IsCodeOf (p : Program) (bank : Bank) (contracts : List Contract) (at : ℕ) (asserts : List (ℕ × ℕ)) (c : Code) : Type 0 where
   pub here : c.at ≡ at
-  pub row : IsRowCode p bank always c
+  pub row : IsRowCode p bank contracts c
   pub group : IsGroup asserts at c.asserts
 
 -- the codes are those of the first n of some addresses
-pub record AreCodes (p : Program) (bank : Bank) (always : ℕ) (addresses : List ℕ) (asserts : List (ℕ × ℕ)) (n : ℕ) (codes : List Code) : Type 0 where
+pub record AreCodes (p : Program) (bank : Bank) (contracts : List Contract) (addresses : List ℕ) (asserts : List (ℕ × ℕ)) (n : ℕ) (codes : List Code) : Type 0 where
   pub count : length codes ≡ n
-  pub each : (i : ℕ) (d : Code) → i < n → IsCodeOf p bank always (slice_index addresses i) asserts (slice_index_or codes i d)
+  pub each : (i : ℕ) (d : Code) → i < n → IsCodeOf p bank contracts (slice_index addresses i) asserts (slice_index_or codes i d)

@@ -1,5 +1,5 @@
 -- What the lists of rows do at points.
-use Rattle.std.specs.Prelude.{ℕ, ◌≡◌, ◌<◌, ◌^◌, ◌↔◌, ◌⊎◌, Bool, true, nat_eq, nat_lt, List, [], Option, Some, None, Contains, length, slice_index, if◌then◌else◌}
+use Rattle.std.specs.Prelude.{ℕ, ◌≡◌, ◌<◌, ◌^◌, ◌↔◌, Bool, true, false, nat_eq, nat_lt, List, Option, Some, None, Contains, length, slice_index, if◌then◌else◌}
 use Rattle.std.specs.List.{list_any}
 use Rattle.std.specs.Global.{Vec}
 use Rattle.machine_spec.specs.Machine.{Row}
@@ -9,13 +9,12 @@ use Rattle.machine_spec.specs.Bil.{Bank, Statements, Empty}
 use Rattle.machine_spec.specs.BilCounts.{may_assign}
 use Rattle.bilv_spec.specs.Run.{Program, all_kept}
 use Rattle.bilv_spec.specs.Points.{file_row, file_number, loads_at}
-use Rattle.bilv_spec.specs.LiveFlags.{IsLive}
 use Rattle.bil_ast.specs.declared.statements.Stmt.{Stmt}
 use Rattle.bil_ast.specs.Views.{statements}
 use Rattle.bil_trim.specs.Flags.{kept_in, with_flags}
 use Rattle.bil_trim.specs.Literals.{with_literal}
+use Rattle.flag_live.specs.Contracted.{IsLiveWith}
 use Rattle.graph_nodes.specs.Graphs.{has_flag}
-use Rattle.walk_spec.specs.Unrolled.{Action, Executes, UnrolledProgram, point_at}
 use Rattle.frame_spec.specs.Frames.{Contract}
 use Rattle.frame_spec.specs.FrameUnrolling.{DoesRow, IsRunnable}
 use Rattle.frame_spec.specs.FrameWalk as frames
@@ -44,47 +43,34 @@ abbrev pub list_with : Program → Option ℕ → Statements → Statements
 list_with p None list = list
 list_with p (Some a) list = with_literal p.machine.endian a (file_number p a) list
 
--- The list of a row that stands at an address: as it is lifted, but without the assignments of flags that are not live there, and with the constant of a
--- literal in place of its load where the literal is kept.
-pub record IsListAt (p : Program) (bank : Bank) (row : Row) (at : ℕ) (list : Statements) : Type 0 where
+-- The list of a row that stands at an address, in frames of notes with some contracts: as it is lifted, but without the assignments of flags that are not live
+-- there, and with the constant of a literal in place of its load where the literal is kept.
+pub record IsListAt (p : Program) (bank : Bank) (contracts : List Contract) (row : Row) (at : ℕ) (list : Statements) : Type 0 where
   pub lifted : Statements
   pub lifting : IsLifting p.machine bank row at lifted
   pub keeps : ℕ
-  pub live : (f : ℕ) → f < 4 → (has_flag keeps f ≡ true) ↔ IsLive p f at
-  pub is : list ≡ list_with p (kept_literal p (row.literal at)) (with_flags (kept_in keeps) lifted)
-  pub word : (a : ℕ) → kept_literal p (row.literal at) ≡ Some a → file_number p a < 2 ^ 32
-
--- So where the assignments of the flags of a set stay besides.
-pub record IsListWith (p : Program) (bank : Bank) (always : ℕ) (row : Row) (at : ℕ) (list : Statements) : Type 0 where
-  pub lifted : Statements
-  pub lifting : IsLifting p.machine bank row at lifted
-  pub keeps : ℕ
-  pub live : (f : ℕ) → f < 4 → IsLive p f at → has_flag keeps f ≡ true
-  pub besides : (f : ℕ) → f < 4 → has_flag always f ≡ true → has_flag keeps f ≡ true
-  pub only : (f : ℕ) → f < 4 → has_flag keeps f ≡ true → IsLive p f at ⊎ (has_flag always f ≡ true)
+  pub live : (f : ℕ) → f < 4 → (has_flag keeps f ≡ true) ↔ IsLiveWith p contracts f at
   pub is : list ≡ list_with p (kept_literal p (row.literal at)) (with_flags (kept_in keeps) lifted)
   pub word : (a : ℕ) → kept_literal p (row.literal at) ≡ Some a → file_number p a < 2 ^ 32
 
 -- the list of what stands at an address, and none where there is no row
-abbrev pub IsListedAt : Program → Bank → (always : ℕ) → Option Row → (at : ℕ) → Option (Vec Stmt) → Type 0
-IsListedAt p bank always None at None = Unit {0}
-IsListedAt p bank always (Some row) at (Some v) = IsListWith p bank always row at (statements v.items)
-IsListedAt p bank always None at (Some v) = ⊥
-IsListedAt p bank always (Some row) at None = ⊥
+abbrev pub IsListedAt : Program → Bank → List Contract → Option Row → (at : ℕ) → Option (Vec Stmt) → Type 0
+IsListedAt p bank contracts None at None = Unit {0}
+IsListedAt p bank contracts (Some row) at (Some v) = IsListAt p bank contracts row at (statements v.items)
+IsListedAt p bank contracts None at (Some v) = ⊥
+IsListedAt p bank contracts (Some row) at None = ⊥
 
--- what is done where a row stands at an address is the row's list, and nothing where none does
-abbrev pub IsListOf : Program → Bank → Option Row → (at : ℕ) → Action → Type 0
-IsListOf p bank None at (Executes list) = list ≡ Empty
-IsListOf p bank (Some row) at (Executes list) = IsListAt p bank row at list
+-- A list that is done where a row stands at an address is the row's, and one where none does is empty. At an arrival and at a contract step no list is done.
+abbrev pub IsListOf : Program → Bank → List Contract → Option Row → (at : ℕ) → frames.Action → Type 0
+IsListOf p bank contracts None at (frames.Executes list) = list ≡ Empty
+IsListOf p bank contracts (Some row) at (frames.Executes list) = IsListAt p bank contracts row at list
+IsListOf p bank contracts o at frames.Arrives = Unit {0}
+IsListOf p bank contracts o at (frames.StepsOver x) = Unit {0}
 
--- what is done at each point is the list of the row at its address
-abbrev pub HasListsOf : Program → Bank → UnrolledProgram → Type 0
-HasListsOf p bank u = (i : ℕ) → i < length u.points →
-    IsListOf p bank (file_row p (point_at u i).point.at) (point_at u i).point.at (point_at u i).does
-
--- the flags of the set are all, or there is no contract that could read one
-abbrev pub CanBeRead : List Contract → (always : ℕ) → Type 0
-CanBeRead contracts always = (contracts ≡ []) ⊎ ((f : ℕ) → f < 4 → has_flag always f ≡ true)
+-- the list that is done at each point is that of the row at its address
+abbrev pub HasListsOf : Program → Bank → List Contract → frames.UnrolledProgram → Type 0
+HasListsOf p bank contracts u = (i : ℕ) → i < length u.points →
+    IsListOf p bank contracts (file_row p (frames.point_at u i).point.at) (frames.point_at u i).point.at (frames.point_at u i).does
 
 -- what is counted of a point is what the row costs
 pub record IsCosted (p : Program) (q : frames.UnrolledPoint) (row : Row) : Type 0 where
@@ -96,16 +82,19 @@ pub record IsCosted (p : Program) (q : frames.UnrolledPoint) (row : Row) : Type 
 -- The list of a lawful row, at a point of the row's address, does what the row does as far as it is read later, in frames with some contracts. Terms can be made
 -- of it.
 abbrev pub ListsDoRows : Type 0
-ListsDoRows = (p : Program) (contracts : List Contract) (u : frames.UnrolledProgram) (form : Layout) (bank : Bank) (always : ℕ) (q : frames.UnrolledPoint)
+ListsDoRows = (p : Program) (contracts : List Contract) (u : frames.UnrolledProgram) (form : Layout) (bank : Bank) (q : frames.UnrolledPoint)
     (row : Row) (list : Statements) →
     IsFitted p.machine form → ((r : ℕ) → list_any (nat_eq r) u.registers ≡ p.machine.has_register r) → ((f : ℕ) → nat_lt f u.flags ≡ p.machine.has_flag f) →
-    file_row p q.point.at ≡ Some row → IsLawful row → IsListWith p bank always row q.point.at list → CanBeRead contracts always →
+    file_row p q.point.at ≡ Some row → IsLawful row → IsListAt p bank contracts row q.point.at list →
     q.does ≡ frames.Executes list → q.length ≡ row.length → IsCosted p q row → DoesRow p contracts u q row × IsRunnable u q list
 
 -- what is done assigns the flag somewhere
-abbrev pub may_assign_in : ℕ → Action → Bool
-may_assign_in f (Executes list) = may_assign f list
+abbrev pub may_assign_in : ℕ → frames.Action → Bool
+may_assign_in f (frames.Executes list) = may_assign f list
+may_assign_in f frames.Arrives = false
+may_assign_in f (frames.StepsOver x) = false
 
--- a point assigns a flag only where the assignment is live
-abbrev pub AssignsLiveOnly : Program → UnrolledProgram → Type 0
-AssignsLiveOnly p u = (i f : ℕ) → i < length u.points → f < 4 → may_assign_in f (point_at u i).does ≡ true → IsLive p f (point_at u i).point.at
+-- a point assigns a flag by its list only where the assignment is live
+abbrev pub AssignsLiveOnly : Program → List Contract → frames.UnrolledProgram → Type 0
+AssignsLiveOnly p contracts u = (i f : ℕ) → i < length u.points → f < 4 → may_assign_in f (frames.point_at u i).does ≡ true →
+    IsLiveWith p contracts f (frames.point_at u i).point.at

@@ -23,8 +23,8 @@ abbrev pub step_codes : List Contract → (stepped steps : List ℕ) → List Co
 step_codes contracts stepped steps = map (λ a. step_code (contract_by contracts (place_in stepped a))) steps
 
 -- The codes are those of the addresses of rows, and behind them those of contract steps.
-pub record AreAllCodes (p : Program) (bank : Bank) (always : ℕ) (contracts : List Contract) (stepped rows steps : List ℕ) (asserts : List (ℕ × ℕ))
+pub record AreAllCodes (p : Program) (bank : Bank) (noted : List frames.Contract) (contracts : List Contract) (stepped rows steps : List ℕ) (asserts : List (ℕ × ℕ))
     (codes : List Code) : Type 0 where
   pub of_rows : List Code
-  pub are : AreCodes p bank always rows asserts (length rows) of_rows
+  pub are : AreCodes p bank noted rows asserts (length rows) of_rows
   pub is : codes ≡ of_rows ++ step_codes contracts stepped steps

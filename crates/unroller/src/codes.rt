@@ -1,5 +1,5 @@
 //! What stands at an address.
-ghost use Rattle.std.specs.Prelude.{◌≡◌, ◌++◌, ℕ, Bool, IfOk, OnOk, None, Some, false, Contains, length};
+ghost use Rattle.std.specs.Prelude.{◌≡◌, ◌++◌, ℕ, List, Bool, IfOk, OnOk, None, Some, false, Contains, length};
 ghost use Rattle.std.specs.List.Sorted.{IsNonDecreasingBy};
 ghost use Rattle.bilv_spec.specs.Files.{order_of, program_of};
 ghost use Rattle.machine_spec.specs.Machine.{Machine};
@@ -9,13 +9,14 @@ ghost use Rattle.bilv_spec.specs.Points.{loads_at};
 ghost use Rattle.bilv_spec.specs.Run.{some_of};
 ghost use Rattle.bil_ast.specs.Views.{statements};
 ghost use Rattle.byte_mem.specs.Views.{endian_of};
-ghost use Rattle.flag_live.specs.Keeps.{IsKeptWith, LiveStayWith};
+ghost use Rattle.frame_spec.specs.Frames.{Contract as NotedContract};
+ghost use Rattle.flag_live.specs.Contracted.{IsKeptWith, LiveStayWith};
 ghost use Rattle.graph_nodes.specs.Graphs.{IsGraph, IsNode, addresses_of};
 ghost use Rattle.graph_nodes.specs.Places.{AreRising};
 ghost use Rattle.unroller.specs.Asking.{program_asking};
 ghost use Rattle.unroller.specs.Places.{AreCodes, IsRowCode};
 ghost use Rattle.unroller.specs.Rows as rows;
-ghost use Rattle.unroller.specs.Rows.{AreLiterals, IsListWith};
+ghost use Rattle.unroller.specs.Rows.{AreLiterals, IsListAt};
 
 use bil_ast::Stmt;
 use bil_trim::{Literal, with_flags, with_literal};
@@ -108,8 +109,8 @@ fn listed<M: Machine>(
     insn: &M::Insn,
     node: &Node,
 ) -> Result<RowList, AllocError>
-    ensures list { (n : Notes) (e : ℕ) (o : ℕ → Bool) (always : ℕ) → IsKeptWith (program_asking M.machine program.now.image.now n e o) always node.now →
-        IfOk result (λ l. IsListWith (program_asking M.machine program.now.image.now n e o) M.bank always (M.Machine.row insn.now) node.now.at (statements l.list.items)) }
+    ensures list { (n : Notes) (e : ℕ) (o : ℕ → Bool) (noted : List NotedContract) → IsKeptWith (program_asking M.machine program.now.image.now n e o) noted node.now →
+        IfOk result (λ l. IsListAt (program_asking M.machine program.now.image.now n e o) M.bank noted (M.Machine.row insn.now) node.now.at (statements l.list.items)) }
     ensures loads { (n : Notes) (e : ℕ) (o : ℕ → Bool) → IfOk result (λ l.
         l.loads ≡ loads_at (program_asking M.machine program.now.image.now n e o) node.now.at (Some (M.Machine.row insn.now))) }
 {
@@ -137,9 +138,9 @@ pub fn code_at<M: Machine>(
 ) -> Result<Code, AllocError>
     ensures at { IfOk result (λ c. c.at ≡ node.now.at) }
     ensures asserts { IfOk result (λ c. c.asserts ≡ asserts) }
-    ensures row { (n : Notes) (e : ℕ) (o : ℕ → Bool) (always : ℕ) → IsNode (program_asking M.machine program.now.image.now n e o) node.now →
-        IsKeptWith (program_asking M.machine program.now.image.now n e o) always node.now →
-        IfOk result (λ c. IsRowCode (program_asking M.machine program.now.image.now n e o) M.bank always c) }
+    ensures row { (n : Notes) (e : ℕ) (o : ℕ → Bool) (noted : List NotedContract) → IsNode (program_asking M.machine program.now.image.now n e o) node.now →
+        IsKeptWith (program_asking M.machine program.now.image.now n e o) noted node.now →
+        IfOk result (λ c. IsRowCode (program_asking M.machine program.now.image.now n e o) M.bank noted c) }
 {
     let word = match node.word {
         None => return Ok(bare(node, asserts)),
@@ -176,9 +177,9 @@ pub fn codes_at<M: Machine>(
     requires nodes { AreRising graph.now.nodes.items }
     requires among { (a : ℕ) → Contains addresses.now a → Contains (addresses_of graph.now) a }
     requires sorted { IsNonDecreasingBy (λ x. x.0) asserts.now }
-    ensures { (n : Notes) (e : ℕ) (o : ℕ → Bool) (always : ℕ) → IsGraph (program_asking M.machine program.now.image.now n e o) graph.now →
-        LiveStayWith (program_asking M.machine program.now.image.now n e o) always graph.now →
-        IfOk result (λ v. AreCodes (program_asking M.machine program.now.image.now n e o) M.bank always addresses.now asserts.now (length addresses.now) v.items) }
+    ensures { (n : Notes) (e : ℕ) (o : ℕ → Bool) (noted : List NotedContract) → IsGraph (program_asking M.machine program.now.image.now n e o) graph.now →
+        LiveStayWith (program_asking M.machine program.now.image.now n e o) noted graph.now →
+        IfOk result (λ v. AreCodes (program_asking M.machine program.now.image.now n e o) M.bank noted addresses.now asserts.now (length addresses.now) v.items) }
 {
     let mut codes: Vec<Code> = Vec::with_capacity(alloc, addresses.len())?;
     for at in addresses {

@@ -1,16 +1,15 @@
 //! The unrolled program of a program, and the unrolled frame of a frame.
-ghost use Rattle.std.specs.Prelude.{◌≡◌, ◌↔◌, ◌≤◌, ◌<◌, ◌^◌, ℕ, Bool, true, false, [], None, IfOk, IfErr, Contains, filter, length, map, slice_index_or};
+ghost use Rattle.std.specs.Prelude.{◌≡◌, ◌↔◌, List, ◌≤◌, ◌<◌, ◌^◌, ℕ, Bool, true, false, [], None, IfOk, IfErr, Contains, filter, length, map, slice_index_or};
 ghost use Rattle.std.specs.List.Sorted.{IsNonDecreasingBy, IsStrictlyIncreasing};
 ghost use Rattle.bilv_spec.specs.Elf.{IsKeptRuns};
 ghost use Rattle.bilv_spec.specs.Notes.{Notes as SpecNotes};
-ghost use Rattle.bilv_spec.specs.Run as tables;
-ghost use Rattle.flag_live.specs.Asked.{unasked};
-ghost use Rattle.flag_live.specs.Keeps.{LiveStayWith};
+ghost use Rattle.flag_live.specs.Contracted.{LiveStayWith};
 ghost use Rattle.graph_nodes.specs.Graphs.{IsFlagSet, IsGraph, addresses_of};
 ghost use Rattle.graph_nodes.specs.Places.{AreRising};
 ghost use Rattle.notes_value.specs.FrameViews.{contract_of};
 ghost use Rattle.notes_value.specs.NoteViews.{notes_of};
 ghost use Rattle.notes_value.specs.declared.notes.Contract.{Contract as ListedContract};
+ghost use Rattle.frame_spec.specs.Frames.{Contract as NotedContract};
 ghost use Rattle.frame_spec.specs.FramePoints.{has_heads};
 ghost use Rattle.frame_spec.specs.FrameUnrolling as frames;
 ghost use Rattle.frame_spec.specs.FrameWalk as walks;
@@ -27,7 +26,7 @@ ghost use Rattle.unroller.specs.Keys.{address_of, is_of};
 ghost use Rattle.unroller.specs.Steps.{AreAllCodes, WritesFew};
 ghost use Rattle.unroller.specs.Lookups.{HasForm};
 ghost use Rattle.unroller.specs.RootPoints.{BeginAtOwn, IsEntryFirst};
-ghost use Rattle.unroller.specs.Rows.{AssignsLiveOnly, CanBeRead, HasListsOf};
+ghost use Rattle.unroller.specs.Rows.{AssignsLiveOnly, HasListsOf};
 ghost use Rattle.known_bytes.specs.Runs.{AreRuns};
 ghost use Rattle.start_value.specs.Starts.{layout_of};
 ghost use Rattle.walk_spec.specs.Unrolled.{byte_of_runs, point_at};
@@ -40,7 +39,7 @@ use crate::placing::{Coded, calls, points_of};
 use crate::roots::{heads, roots_of};
 use crate::steps::{add_codes, contract_addresses};
 use elf32_reader::Image;
-use flag_live::{keep, trim};
+use flag_live::trim;
 use graph_nodes::Graph;
 use known_bytes::known_bytes;
 use machine_law::{Machine, is_narrow};
@@ -88,29 +87,6 @@ pub struct FrameParts<'a, M: Machine> {
     pub stepped: &'a [Contract],
     pub own: Option<&'a Contract>,
     pub contracts: &'a [Contract],
-}
-
-/// The flags whose assignments stay wherever they are: all of them where a contract could read one.
-fn always_kept(contracts: &[Contract]) -> u8
-    ensures few { result < 16 }
-    ensures none { contracts.now ≡ [] → result ≡ 0 }
-    ensures some { CanBeRead (map contract_of contracts.now) result }
-{
-    if contracts.is_empty() {
-        return 0;
-    }
-    15
-}
-
-/// The graph in which the assignments of flags stay that are live, where those of the set `out` are asked for at the exit, and those of the set `always`. The
-/// error is want of memory.
-fn live_graph(alloc: Global, graph: &Graph, out: u8, always: u8) -> Result<Graph, AllocError>
-    ensures graph { (p : tables.Program) → IsFlagSet out p.out → IsGraph (unasked p) graph.now → IfOk result (λ t. IsGraph p t) }
-    ensures live { (p : tables.Program) → IsFlagSet out p.out → IsGraph (unasked p) graph.now → IfOk result (λ t. LiveStayWith p always t) }
-{
-    let trimmed = trim(alloc, graph, out)?;
-    let kept = keep(alloc, &trimmed, always)?;
-    Ok(kept)
 }
 
 /// Where the runs of a frame are cut, and the addresses of the contracts that it steps over, in their order.
@@ -169,9 +145,9 @@ fn all_codes<M: Machine>(
     requires stepped { stepped.now ≡ map (λ x. x.at) contracts.now }
     requires steps { (a : ℕ) → Contains coded.steps.now a → Contains stepped.now a }
     requires few { (x : ListedContract) → Contains contracts.now x → WritesFew x }
-    ensures { (n : SpecNotes) (e : ℕ) (o : ℕ → Bool) (always : ℕ) → IsGraph (program_asking M.machine program.now.image.now n e o) graph.now →
-        LiveStayWith (program_asking M.machine program.now.image.now n e o) always graph.now →
-        IfOk result (λ v. AreAllCodes (program_asking M.machine program.now.image.now n e o) M.bank always contracts.now stepped.now coded.entry.rows.now
+    ensures { (n : SpecNotes) (e : ℕ) (o : ℕ → Bool) (noted : List NotedContract) → IsGraph (program_asking M.machine program.now.image.now n e o) graph.now →
+        LiveStayWith (program_asking M.machine program.now.image.now n e o) noted graph.now →
+        IfOk result (λ v. AreAllCodes (program_asking M.machine program.now.image.now n e o) M.bank noted contracts.now stepped.now coded.entry.rows.now
         coded.entry.steps.now asserts.now v.items) }
 {
     let mut codes = codes_at::<M>(alloc, program, graph, coded.rows, asserts)?;
@@ -201,10 +177,10 @@ fn unroll_with<'a, M: Machine>(
     ensures unrolled { (asked : ℕ → Bool) → IsFlagSet out asked → IfOk result (λ u.
         frames.IsUnrolling (parts_frame (asking (program_of parts.now.program) asked) parts.now)
         (map contract_of parts.now.contracts.now) k (frame_unrolled_of u)) }
-    ensures lists { (asked : ℕ → Bool) → IsFlagSet out asked → parts.now.stepped.now ≡ [] → parts.now.contracts.now ≡ [] →
-        IfOk result (λ u. HasListsOf (asking (program_of parts.now.program) asked) M.bank (unrolled_of u)) }
-    ensures lean { (asked : ℕ → Bool) → IsFlagSet out asked → parts.now.stepped.now ≡ [] → parts.now.contracts.now ≡ [] →
-        IfOk result (λ u. AssignsLiveOnly (asking (program_of parts.now.program) asked) (unrolled_of u)) }
+    ensures lists { (asked : ℕ → Bool) → IsFlagSet out asked →
+        IfOk result (λ u. HasListsOf (asking (program_of parts.now.program) asked) M.bank (map contract_of parts.now.contracts.now) (frame_unrolled_of u)) }
+    ensures lean { (asked : ℕ → Bool) → IsFlagSet out asked →
+        IfOk result (λ u. AssignsLiveOnly (asking (program_of parts.now.program) asked) (map contract_of parts.now.contracts.now) (frame_unrolled_of u)) }
     ensures formed { IfOk result (λ u. IsFormed u) }
     ensures roots { IfOk result (λ u. AreRootsFormed u) }
     ensures steps { IfOk result (λ u. AreStepsFormed u) }
@@ -227,7 +203,7 @@ fn unroll_with<'a, M: Machine>(
         IfErr result (HasTooMany (parts_frame (asking (program_of parts.now.program) asked) parts.now) k max) }
 {
     parts.program.image.bytes();
-    let live = live_graph(alloc, graph, out, always_kept(parts.contracts))?;
+    let live = trim(alloc, graph, parts.contracts, out)?;
     let places = cut_places(alloc, parts)?;
     let cuts = Cuts {
         heads: &places.heads,
@@ -312,9 +288,9 @@ pub fn unroll_asking<'a, M: Machine>(
     ensures unrolled { (asked : ℕ → Bool) → IsFlagSet out asked →
         IfOk result (λ u. IsUnrolling (asking (program_of program.now) asked) k (unrolled_of u)) }
     ensures lists { (asked : ℕ → Bool) → IsFlagSet out asked →
-        IfOk result (λ u. HasListsOf (asking (program_of program.now) asked) M.bank (unrolled_of u)) }
+        IfOk result (λ u. HasListsOf (asking (program_of program.now) asked) M.bank [] (frame_unrolled_of u)) }
     ensures lean { (asked : ℕ → Bool) → IsFlagSet out asked →
-        IfOk result (λ u. AssignsLiveOnly (asking (program_of program.now) asked) (unrolled_of u)) }
+        IfOk result (λ u. AssignsLiveOnly (asking (program_of program.now) asked) [] (frame_unrolled_of u)) }
     ensures formed { IfOk result (λ u. IsFormed u) }
     ensures roots { IfOk result (λ u. AreRootsFormed u) }
     ensures few { IfOk result (λ u. length u.points.items ≤ max) }
@@ -358,8 +334,8 @@ pub fn unroll<'a, M: Machine>(
     requires k { k ≤ 4096 }
     requires graph { IsGraph (program_of program.now) graph.now }
     ensures unrolled { IfOk result (λ u. IsUnrolling (program_of program.now) k (unrolled_of u)) }
-    ensures lists { IfOk result (λ u. HasListsOf (program_of program.now) M.bank (unrolled_of u)) }
-    ensures lean { IfOk result (λ u. AssignsLiveOnly (program_of program.now) (unrolled_of u)) }
+    ensures lists { IfOk result (λ u. HasListsOf (program_of program.now) M.bank [] (frame_unrolled_of u)) }
+    ensures lean { IfOk result (λ u. AssignsLiveOnly (program_of program.now) [] (frame_unrolled_of u)) }
     ensures formed { IfOk result (λ u. IsFormed u) }
     ensures roots { IfOk result (λ u. AreRootsFormed u) }
     ensures few { IfOk result (λ u. length u.points.items ≤ max) }
@@ -395,8 +371,8 @@ pub fn unroll_frame<'a, M: Machine>(
     requires graph { IsGraph (program_of program.now) graph.now }
     ensures unrolled { IfOk result (λ u.
         frames.IsUnrolling (frame_of (program_of program.now) invariants.now) [] k (frame_unrolled_of u)) }
-    ensures lists { IfOk result (λ u. HasListsOf (program_of program.now) M.bank (unrolled_of u)) }
-    ensures lean { IfOk result (λ u. AssignsLiveOnly (program_of program.now) (unrolled_of u)) }
+    ensures lists { IfOk result (λ u. HasListsOf (program_of program.now) M.bank [] (frame_unrolled_of u)) }
+    ensures lean { IfOk result (λ u. AssignsLiveOnly (program_of program.now) [] (frame_unrolled_of u)) }
     ensures formed { IfOk result (λ u. IsFormed u) }
     ensures roots { IfOk result (λ u. AreRootsFormed u) }
     ensures steps { IfOk result (λ u. AreStepsFormed u) }
@@ -424,7 +400,8 @@ pub fn unroll_frame<'a, M: Machine>(
 }
 
 /// The unrolled frame of a frame with contracts: a call of a contract that the frame steps over leads to a point where the contract step is made, which is left
-/// by its return. In lists the assignments of all flags stay where a contract of the notes could read one. All else is as `unroll_frame` makes it.
+/// by its return. A flag is read where a contract step is made that reads it, and at the exit of each contract's frame that does. All else is as `unroll_frame` makes
+/// it.
 ///
 /// # Errors
 ///
@@ -443,10 +420,10 @@ pub fn unroll_contracted<'a, M: Machine>(
     ensures unrolled { IfOk result (λ u.
         frames.IsUnrolling (parts_frame (program_of parts.now.program) parts.now)
         (map contract_of parts.now.contracts.now) k (frame_unrolled_of u)) }
-    ensures lists { parts.now.stepped.now ≡ [] → parts.now.contracts.now ≡ [] →
-        IfOk result (λ u. HasListsOf (program_of parts.now.program) M.bank (unrolled_of u)) }
-    ensures lean { parts.now.stepped.now ≡ [] → parts.now.contracts.now ≡ [] →
-        IfOk result (λ u. AssignsLiveOnly (program_of parts.now.program) (unrolled_of u)) }
+    ensures lists { IfOk result (λ u.
+        HasListsOf (program_of parts.now.program) M.bank (map contract_of parts.now.contracts.now) (frame_unrolled_of u)) }
+    ensures lean { IfOk result (λ u.
+        AssignsLiveOnly (program_of parts.now.program) (map contract_of parts.now.contracts.now) (frame_unrolled_of u)) }
     ensures formed { IfOk result (λ u. IsFormed u) }
     ensures roots { IfOk result (λ u. AreRootsFormed u) }
     ensures steps { IfOk result (λ u. AreStepsFormed u) }

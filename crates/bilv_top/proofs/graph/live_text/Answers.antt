@@ -7,4 +7,4 @@ pub returns : goal.returns
 returns g c =
     let p : Program = program_of c.args.program.now in
     c.in_ok-text.ensures.text p (c.in_ok-live.ensures.graph p no_flags c.in_ok-whole.ensures.graph)
-    (c.in_ok-live.ensures.live p no_flags c.in_ok-whole.ensures.graph)
+    (c.in_ok-live.ensures.live p c.no_contracts.ensures no_flags c.in_ok-whole.ensures.graph)

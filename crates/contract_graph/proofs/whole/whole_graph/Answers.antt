@@ -9,16 +9,12 @@ use Rattle.contract_graph.proofs.whole.whole_graph.Goals as goal
 
 pub returns-clause-graph : goal.returns-clause-graph
 returns-clause-graph g c heads =
-    (whole_made (whole_with (program_of c.args.program.now) heads c.args.contracts.now) c.deref.result.now c.in_ok-graph.graph
-    c.in_ok-live.live c.as_mut_slice.result.now c.ask.new.nodes c.read_at_exits.result
+    (whole_made (whole_with (program_of c.args.program.now) heads c.args.contracts.now) c.deref.result.now c.in_ok-graph.graph c.in_ok-live.live
     (c.deref.ensures.value ∙ c.in_ok-others.ensures ∙ sym (maps (λ (x : Contract). x.at) contract_of c.args.contracts.now)) c.in_ok-graph.ensures.graph
-    c.as_mut_slice.ensures.value (c.ask.auto.nodes ∙ c.as_mut_slice.ensures.len) c.ask.ensures c.read_at_exits.ensures c.in_ok-live.ensures.same
-    c.in_ok-live.ensures.asked c.in_ok-live.ensures.alive).0
+    c.in_ok-live.ensures.same c.in_ok-live.ensures.asked c.in_ok-live.ensures.alive).0
 
 pub returns-clause-live : goal.returns-clause-live
 returns-clause-live g c heads =
-    (whole_made (whole_with (program_of c.args.program.now) heads c.args.contracts.now) c.deref.result.now c.in_ok-graph.graph
-    c.in_ok-live.live c.as_mut_slice.result.now c.ask.new.nodes c.read_at_exits.result
+    (whole_made (whole_with (program_of c.args.program.now) heads c.args.contracts.now) c.deref.result.now c.in_ok-graph.graph c.in_ok-live.live
     (c.deref.ensures.value ∙ c.in_ok-others.ensures ∙ sym (maps (λ (x : Contract). x.at) contract_of c.args.contracts.now)) c.in_ok-graph.ensures.graph
-    c.as_mut_slice.ensures.value (c.ask.auto.nodes ∙ c.as_mut_slice.ensures.len) c.ask.ensures c.read_at_exits.ensures c.in_ok-live.ensures.same
-    c.in_ok-live.ensures.asked c.in_ok-live.ensures.alive).1
+    c.in_ok-live.ensures.same c.in_ok-live.ensures.asked c.in_ok-live.ensures.alive).1

@@ -17,19 +17,19 @@ unreachable-requires g c =
     ))
 
 pub loop-at-init : goal.loop-at-init
-loop-at-init g c = λ n e o always is live.
-    codes_none (program_asking g.M.Machine.machine c.args.program.now.image.now n e o) g.M.Machine.bank always c.args.addresses.now c.args.asserts.now c.in_ok-codes.codes.items
+loop-at-init g c = λ n e o noted is live.
+    codes_none (program_asking g.M.Machine.machine c.args.program.now.image.now n e o) g.M.Machine.bank noted c.args.addresses.now c.args.asserts.now c.in_ok-codes.codes.items
     c.in_ok-codes.ensures.items
 
 pub loop-at-preserved : goal.loop-at-preserved
-loop-at-preserved g c = λ n e o always is live.
+loop-at-preserved g c = λ n e o noted is live.
     let p : Program = program_asking g.M.Machine.machine c.args.program.now.image.now n e o in
-    codes_more p g.M.Machine.bank always c.args.addresses.now c.args.asserts.now c.loop-at.at-index c.loop-at.codes.items c.push.new.self.items c.in_ok-code.code
-    (c.loop-at.invariant n e o always is live)
+    codes_more p g.M.Machine.bank noted c.args.addresses.now c.args.asserts.now c.loop-at.at-index c.loop-at.codes.items c.push.new.self.items c.in_ok-code.code
+    (c.loop-at.invariant n e o noted is live)
     c.in_ok-push.ensures.items (record {
       here = c.in_ok-code.ensures.at ∙ c.in-Some.ensures.0;
-      row = c.in_ok-code.ensures.row n e o always (of_nodes p c.args.graph.now c.in-Some.node.now is c.in-Some.ensures.1)
-          (kept_of_nodes p always c.args.graph.now c.in-Some.node.now live c.in-Some.ensures.1);
+      row = c.in_ok-code.ensures.row n e o noted (of_nodes p c.args.graph.now c.in-Some.node.now is c.in-Some.ensures.1)
+          (kept_of_nodes p noted c.args.graph.now c.in-Some.node.now live c.in-Some.ensures.1);
       group =
           subst (λ (b : ℕ × ℕ). IsGroup c.args.asserts.now (get_or c.args.addresses.now c.loop-at.at-index 0) b) (sym c.in_ok-code.ensures.asserts) (record {
             ordered = c.group.ensures.ordered;
@@ -41,7 +41,7 @@ loop-at-preserved g c = λ n e o always is live.
     })
 
 pub returns : goal.returns
-returns g c = λ n e o always is live.
+returns g c = λ n e o noted is live.
     let p : Program = program_asking g.M.Machine.machine c.args.program.now.image.now n e o in
     let whole : c.loop-at.at-index ≡ length c.args.addresses.now = omega arith in
-    subst (λ (z : ℕ). AreCodes p g.M.Machine.bank always c.args.addresses.now c.args.asserts.now z c.loop-at.codes.items) whole (c.loop-at.invariant n e o always is live)
+    subst (λ (z : ℕ). AreCodes p g.M.Machine.bank noted c.args.addresses.now c.args.asserts.now z c.loop-at.codes.items) whole (c.loop-at.invariant n e o noted is live)

@@ -12,16 +12,16 @@ use Rattle.unroller.proofs.Literals.{loads_full, loads_none}
 use Rattle.unroller.proofs.codes.listed.Goals as goal
 
 pub returns-in-None-clause-list : goal.returns-in-None-clause-list
-returns-in-None-clause-list g c = λ n e o always kept.
+returns-in-None-clause-list g c = λ n e o noted kept.
     let p : Program = program_asking g.M.Machine.machine c.args.program.now.image.now n e o in
     let row = g.M.Machine.row c.args.insn.now in
     let lifted = statements c.in_ok-lifted.lifted.items in
     let lifting : IsLifting p.machine g.M.Machine.bank row c.args.node.now.at lifted = c.in_ok-lifted.ensures in
-    plain_list p g.M.Machine.bank always row c.args.node.now lifted (statements c.in_ok-trimmed.trimmed.items) lifting kept c.in_ok-trimmed.ensures
+    plain_list p g.M.Machine.bank noted row c.args.node.now lifted (statements c.in_ok-trimmed.trimmed.items) lifting kept c.in_ok-trimmed.ensures
     (c.in-None.ensures n e o)
 
 pub returns-in_ok-list-in-Some-clause-list : goal.returns-in_ok-list-in-Some-clause-list
-returns-in_ok-list-in-Some-clause-list g c = λ n e o always kept.
+returns-in_ok-list-in-Some-clause-list g c = λ n e o noted kept.
     let p : Program = program_asking g.M.Machine.machine c.args.program.now.image.now n e o in
     let row = g.M.Machine.row c.args.insn.now in
     let lifted = statements c.in_ok-lifted.lifted.items in
@@ -29,7 +29,7 @@ returns-in_ok-list-in-Some-clause-list g c = λ n e o always kept.
     let lifting : IsLifting p.machine g.M.Machine.bank row c.args.node.now.at lifted = c.in_ok-lifted.ensures in
     let made = statements c.in_ok-list-in-Some.list.items in
     let small : literal.value < 2 ^ 32 = omega arith in
-    literal_list p g.M.Machine.bank always row c.args.node.now c.in-Some.place literal.at literal.value (endian_of literal.order) lifted
+    literal_list p g.M.Machine.bank noted row c.args.node.now c.in-Some.place literal.at literal.value (endian_of literal.order) lifted
     (statements c.in_ok-trimmed.trimmed.items) made lifting kept c.in_ok-trimmed.ensures (c.in-Some.ensures n e o)
     (subst (λ (l : List Stmt). made ≡ with_literal (endian_of literal.order) literal.at literal.value (statements l)) c.deref.ensures.value
     c.in_ok-list-in-Some.ensures)

@@ -1,4 +1,4 @@
-use Rattle.std.proofs.Common.{ℕ, List, refl, subst, rules, []}
+use Rattle.std.proofs.Common.{ℕ, List, map, refl, subst, rules, []}
 use Rattle.bilv_spec.specs.Run.{Program}
 use Rattle.frame_spec.specs.FrameUnrolling.{IsUnrolling}
 use Rattle.frame_spec.specs.FrameWalk.{UnrolledProgram}
@@ -13,7 +13,9 @@ use Rattle.question_form.proofs.FrameValues.{headless_values}
 use Rattle.question_form.specs.FrameViews.{frame_unrolled_of}
 use Rattle.question_form.specs.Views.{unrolled_of}
 use Rattle.program_value.specs.Programs.{program_of}
+use Rattle.notes_value.specs.FrameViews.{contract_of}
 use Rattle.unroller.specs.Asking.{asking, frame_of}
+use Rattle.unroller.specs.Rows.{AssignsLiveOnly, HasListsOf}
 use Rattle.unroller.proofs.Fronts.{as_plain, plain_many}
 use Rattle.unroller.proofs.unrolling.unroll_asking.Goals as goal
 
@@ -29,10 +31,14 @@ returns-clause-unrolled g c asked is =
     (frame_unrolled_of u) (c.in_ok-unrolled.ensures.unrolled asked is))))
 
 pub returns-clause-lists : goal.returns-clause-lists
-returns-clause-lists g c asked is = c.in_ok-unrolled.ensures.lists asked is c.no_contracts.ensures c.no_contracts-2.ensures
+returns-clause-lists g c asked is =
+    subst (λ (l : List Contract). HasListsOf (asking (program_of c.args.program.now) asked) g.M.Machine.bank (map contract_of l)
+    (frame_unrolled_of c.in_ok-unrolled.unrolled)) c.no_contracts-2.ensures (c.in_ok-unrolled.ensures.lists asked is)
 
 pub returns-clause-lean : goal.returns-clause-lean
-returns-clause-lean g c asked is = c.in_ok-unrolled.ensures.lean asked is c.no_contracts.ensures c.no_contracts-2.ensures
+returns-clause-lean g c asked is =
+    subst (λ (l : List Contract). AssignsLiveOnly (asking (program_of c.args.program.now) asked) (map contract_of l)
+    (frame_unrolled_of c.in_ok-unrolled.unrolled)) c.no_contracts-2.ensures (c.in_ok-unrolled.ensures.lean asked is)
 
 pub returns-clause-headless : goal.returns-clause-headless
 returns-clause-headless g c = c.in_ok-unrolled.ensures.headless c.no_invariants.ensures c.no_contracts.ensures refl

@@ -14,10 +14,10 @@ pub returns-clause-unrolled : goal.returns-clause-unrolled
 returns-clause-unrolled g c = c.in_ok-unrolled.ensures.unrolled (λ f. false) no_flags
 
 pub returns-clause-lists : goal.returns-clause-lists
-returns-clause-lists g c step none = c.in_ok-unrolled.ensures.lists (λ f. false) no_flags step none
+returns-clause-lists g c = c.in_ok-unrolled.ensures.lists (λ f. false) no_flags
 
 pub returns-clause-lean : goal.returns-clause-lean
-returns-clause-lean g c step none = c.in_ok-unrolled.ensures.lean (λ f. false) no_flags step none
+returns-clause-lean g c = c.in_ok-unrolled.ensures.lean (λ f. false) no_flags
 
 pub returns-clause-addresses : goal.returns-clause-addresses
 returns-clause-addresses g c = frame_words c.in_ok-unrolled.unrolled c.in_ok-unrolled.ensures.addresses

@@ -1,10 +1,12 @@
-use Rattle.std.proofs.Common.{List, subst, rules}
+use Rattle.std.proofs.Common.{List, map, subst, rules}
 use Rattle.program_value.specs.Programs.{program_of}
 use Rattle.bilv_spec.specs.Run.{Program}
 use Rattle.bilv_spec.proofs.PointsInGraph.{none_in}
 use Rattle.notes_value.specs.declared.notes.Contract.{Contract}
 use Rattle.question_form.specs.FrameViews.{frame_unrolled_of}
 use Rattle.std.specs.Prelude.{Contains}
+use Rattle.notes_value.specs.FrameViews.{contract_of}
+use Rattle.unroller.specs.Rows.{AssignsLiveOnly, HasListsOf}
 use Rattle.unroller.proofs.Fronts.{as_plain, plain_many}
 use Rattle.unroller.proofs.unrolling.unroll_frame.Goals as goal
 
@@ -18,10 +20,14 @@ returns-clause-unrolled g c =
     (frame_unrolled_of c.in_ok-unrolled.unrolled) c.in_ok-unrolled.ensures.unrolled
 
 pub returns-clause-lists : goal.returns-clause-lists
-returns-clause-lists g c = c.in_ok-unrolled.ensures.lists c.no_contracts.ensures c.no_contracts-2.ensures
+returns-clause-lists g c =
+    subst (λ (l : List Contract). HasListsOf (program_of c.args.program.now) g.M.Machine.bank (map contract_of l)
+    (frame_unrolled_of c.in_ok-unrolled.unrolled)) c.no_contracts-2.ensures c.in_ok-unrolled.ensures.lists
 
 pub returns-clause-lean : goal.returns-clause-lean
-returns-clause-lean g c = c.in_ok-unrolled.ensures.lean c.no_contracts.ensures c.no_contracts-2.ensures
+returns-clause-lean g c =
+    subst (λ (l : List Contract). AssignsLiveOnly (program_of c.args.program.now) (map contract_of l)
+    (frame_unrolled_of c.in_ok-unrolled.unrolled)) c.no_contracts-2.ensures c.in_ok-unrolled.ensures.lean
 
 pub returns-in_err-unrolled-clause-more : goal.returns-in_err-unrolled-clause-more
 returns-in_err-unrolled-clause-more g c =

@@ -1,4 +1,4 @@
-use Rattle.std.proofs.Common.{◌≡◌, ◌<◌, ℕ, List, refl, ap, sym, ◌∙◌, subst, arith, rules, [], length, map}
+use Rattle.std.proofs.Common.{◌≡◌, ◌<◌, ℕ, List, refl, ap, sym, ◌∙◌, subst, arith, rules, length, map}
 use Rattle.std.specs.Prelude.{◌==◌, IfErr, Bool, true, false, Contains, ◌↔◌, filter, not, slice_index}
 use Rattle.std.specs.List.Sorted.{IsNonDecreasingBy}
 use Rattle.std.proofs.lemmas.List.{length-map}
@@ -31,7 +31,7 @@ use Rattle.unroller.specs.Roots.{AreRoots, first_key}
 use Rattle.unroller.specs.Rows.{AreLiterals}
 use Rattle.unroller.specs.Steps.{AreAllCodes}
 use Rattle.unroller.specs.declared.unrolling.FrameParts.{FrameParts}
-use Rattle.flag_live.proofs.FlagSets.{no_flags, own_flags}
+use Rattle.flag_live.proofs.FlagSets.{own_flags}
 use Rattle.unroller.proofs.CutHeads.{heads_flag, heads_none, no_heads}
 use Rattle.unroller.proofs.Framed.{frame_is, among_graph, addresses_among, steps_stepped, keys_fit, keys_low, keys_rooted, keys_coded, placed_as, segments_grown, keys_grown}
 use Rattle.unroller.proofs.KeptRuns.{kept_runs_are_right}
@@ -289,9 +289,6 @@ module _ (g : given.Over) (c : goal.After-drop-live-2 g) where
   abbrev frames : List stack.Frame
   frames = c.calls.new.stacks.frames.items
 
-  abbrev always : ℕ
-  always = c.always_kept.result
-
   abbrev over : List contracts.Contract
   over = map contract_of parts.contracts.now
 
@@ -364,19 +361,19 @@ module _ (g : given.Over) (c : goal.After-drop-live-2 g) (asked : ℕ → Bool) 
   calls = subst (λ (l : List ℕ). AreCalled c.in_ok-live.live l (frames g c) (length l) c.in_ok-called.called.items) c.deref-4.ensures.value
       c.in_ok-called.ensures.called
 
-  codes : AreAllCodes program g.M.Machine.bank (always g c) (parts g c).stepped.now (stepped g c) (rows g c) (steps g c) (made g c).asserts.items
+  codes : AreAllCodes program g.M.Machine.bank (over g c) (parts g c).stepped.now (stepped g c) (rows g c) (steps g c) (made g c).asserts.items
       (made g c).codes.items
   codes =
-      subst (λ (l : List ℕ). AreAllCodes program g.M.Machine.bank (always g c) (parts g c).stepped.now l (rows g c) (steps g c) (made g c).asserts.items
+      subst (λ (l : List ℕ). AreAllCodes program g.M.Machine.bank (over g c) (parts g c).stepped.now l (rows g c) (steps g c) (made g c).asserts.items
       (made g c).codes.items) c.deref-8.ensures.value
-      (subst (λ (l : List ℕ). AreAllCodes program g.M.Machine.bank (always g c) (parts g c).stepped.now c.deref-8.result.now l (steps g c)
+      (subst (λ (l : List ℕ). AreAllCodes program g.M.Machine.bank (over g c) (parts g c).stepped.now c.deref-8.result.now l (steps g c)
       (made g c).asserts.items (made g c).codes.items) c.deref-5.ensures.value
-      (subst (λ (l : List ℕ). AreAllCodes program g.M.Machine.bank (always g c) (parts g c).stepped.now c.deref-8.result.now c.deref-5.result.now l
+      (subst (λ (l : List ℕ). AreAllCodes program g.M.Machine.bank (over g c) (parts g c).stepped.now c.deref-8.result.now c.deref-5.result.now l
       (made g c).asserts.items (made g c).codes.items) c.deref-6.ensures.value
-      (subst (λ (l : List (ℕ × ℕ)). AreAllCodes program g.M.Machine.bank (always g c) (parts g c).stepped.now c.deref-8.result.now c.deref-5.result.now
+      (subst (λ (l : List (ℕ × ℕ)). AreAllCodes program g.M.Machine.bank (over g c) (parts g c).stepped.now c.deref-8.result.now c.deref-5.result.now
       c.deref-6.result.now l (made g c).codes.items) c.deref-7.ensures.value
-      (c.in_ok-codes.ensures (notes_of (parts g c).program.notes.now) (parts g c).program.entry asked (always g c) graph
-      (c.in_ok-live.ensures.live program is c.requires.graph)))))
+      (c.in_ok-codes.ensures (notes_of (parts g c).program.notes.now) (parts g c).program.entry asked (over g c) graph
+      (c.in_ok-live.ensures.frames program is c.requires.graph)))))
 
   placed : ArePlaced c.in_ok-live.live (heads g c) (stepped g c) (made g c).asserts.items (frames g c) (keys g c) (rows g c) (steps g c)
       c.in_ok-called.called.items (length (keys g c)) (made g c).points.items (made g c).edges.items
@@ -396,7 +393,7 @@ module _ (g : given.Over) (c : goal.After-drop-live-2 g) (asked : ℕ → Bool) 
       (made g c).roots.items) c.deref-12.ensures.value c.in_ok-roots.ensures))
 
   abbrev Made : Type 0
-  Made = IsMade frame (over g c) c.args.k g.M.Machine.bank (always g c) c.in_ok-live.live (made g c) c.calls.new.stacks.numbers (heads g c) (stepped g c)
+  Made = IsMade frame (over g c) c.args.k g.M.Machine.bank c.in_ok-live.live (made g c) c.calls.new.stacks.numbers (heads g c) (stepped g c)
       (segments g c) (keys g c) (rows g c) (steps g c) c.in_ok-called.called.items
 
   is_made : Made
@@ -408,7 +405,6 @@ module _ (g : given.Over) (c : goal.After-drop-live-2 g) (asked : ℕ → Bool) 
         own = refl;
         over = refl;
         ats = c.in_ok-places.ensures.stepped;
-        read = c.always_kept.ensures.some;
         cuts = refl;
         invariants = refl;
         fitted = fitted g c;
@@ -428,7 +424,7 @@ module _ (g : given.Over) (c : goal.After-drop-live-2 g) (asked : ℕ → Bool) 
 
   literals_is : (a : ℕ) → Contains c.in_ok-literals.literals.items a ↔ IsLiteralOf frame c.args.k a
   literals_is =
-      literals_are frame (over g c) c.args.k g.M.Machine.bank (always g c) c.in_ok-live.live (made g c) c.calls.new.stacks.numbers (heads g c) (stepped g c)
+      literals_are frame (over g c) c.args.k g.M.Machine.bank c.in_ok-live.live (made g c) c.calls.new.stacks.numbers (heads g c) (stepped g c)
       (segments g c) (keys g c) (rows g c) (steps g c) c.in_ok-called.called.items is_made c.in_ok-literals.literals.items
       (subst (λ (l : List ℕ). (x : ℕ) → Contains (map address_of (filter (is_of false) l)) x ↔ Contains (rows g c) x) c.deref-3.ensures.value
       c.in_ok-addresses.ensures.of_rows)
@@ -438,7 +434,7 @@ module _ (g : given.Over) (c : goal.After-drop-live-2 g) (asked : ℕ → Bool) 
   unrolling : IsUnrolling frame (over g c) c.args.k (frame_unrolled_of (made g c))
   unrolling =
       let runs = kept_runs_are_right c.args.parts.now.program.image.now c.kept.result.now c.kept.ensures.runs (λ i w. (c.kept.ensures.words i w).1) in
-      let count = size frame (over g c) c.args.k g.M.Machine.bank (always g c) c.in_ok-live.live (made g c) c.calls.new.stacks.numbers (heads g c) (stepped g c)
+      let count = size frame (over g c) c.args.k g.M.Machine.bank c.in_ok-live.live (made g c) c.calls.new.stacks.numbers (heads g c) (stepped g c)
       (segments g c) (keys g c) (rows g c) (steps g c) c.in_ok-called.called.items is_made in
       record {
         endian = c.args.parts.now.program.big_is;
@@ -462,43 +458,38 @@ module _ (g : given.Over) (c : goal.After-drop-live-2 g) (asked : ℕ → Bool) 
             subst (λ (z : ℕ). IsCount (is_known_at program) z) (sym c.in_ok-known.ensures.sum)
             (c.in_ok-known.ensures.count g.M.Machine.machine (parts g c).program.entry);
         literals = literals_is;
-        points = are_points frame (over g c) c.args.k g.M.Machine.bank (always g c) c.in_ok-live.live (made g c) c.calls.new.stacks.numbers (heads g c) (stepped g c)
+        points = are_points frame (over g c) c.args.k g.M.Machine.bank c.in_ok-live.live (made g c) c.calls.new.stacks.numbers (heads g c) (stepped g c)
             (segments g c) (keys g c) (rows g c) (steps g c) c.in_ok-called.called.items is_made;
-        first = first frame (over g c) c.args.k g.M.Machine.bank (always g c) c.in_ok-live.live (made g c) c.calls.new.stacks.numbers (heads g c) (stepped g c)
+        first = first frame (over g c) c.args.k g.M.Machine.bank c.in_ok-live.live (made g c) c.calls.new.stacks.numbers (heads g c) (stepped g c)
             (segments g c) (keys g c) (rows g c) (steps g c) c.in_ok-called.called.items is_made;
-        roots = roots_are frame (over g c) c.args.k g.M.Machine.bank (always g c) c.in_ok-live.live (made g c) c.calls.new.stacks.numbers (heads g c) (stepped g c)
+        roots = roots_are frame (over g c) c.args.k g.M.Machine.bank c.in_ok-live.live (made g c) c.calls.new.stacks.numbers (heads g c) (stepped g c)
             (segments g c) (keys g c) (rows g c) (steps g c) c.in_ok-called.called.items is_made;
-        rooted = rooted frame (over g c) c.args.k g.M.Machine.bank (always g c) c.in_ok-live.live (made g c) c.calls.new.stacks.numbers (heads g c) (stepped g c)
+        rooted = rooted frame (over g c) c.args.k g.M.Machine.bank c.in_ok-live.live (made g c) c.calls.new.stacks.numbers (heads g c) (stepped g c)
             (segments g c) (keys g c) (rows g c) (steps g c) c.in_ok-called.called.items is_made;
-        roots_once = roots_once frame (over g c) c.args.k g.M.Machine.bank (always g c) c.in_ok-live.live (made g c) c.calls.new.stacks.numbers (heads g c) (stepped g c)
+        roots_once = roots_once frame (over g c) c.args.k g.M.Machine.bank c.in_ok-live.live (made g c) c.calls.new.stacks.numbers (heads g c) (stepped g c)
             (segments g c) (keys g c) (rows g c) (steps g c) c.in_ok-called.called.items is_made;
-        places = λ i w. places frame (over g c) c.args.k g.M.Machine.bank (always g c) c.in_ok-live.live (made g c) c.calls.new.stacks.numbers (heads g c) (stepped g c)
+        places = λ i w. places frame (over g c) c.args.k g.M.Machine.bank c.in_ok-live.live (made g c) c.calls.new.stacks.numbers (heads g c) (stepped g c)
             (segments g c) (keys g c) (rows g c) (steps g c) c.in_ok-called.called.items is_made i (omega arith);
       }
 
 pub returns-clause-unrolled : goal.returns-clause-unrolled
 returns-clause-unrolled g c = unrolling g c
 
-none_kept : (g : given.Over) (c : goal.After-drop-live-2 g) → c.args.parts.now.contracts.now ≡ [] → (n : ℕ) → n < 4 → has_flag (always g c) n ≡ false
-none_kept g c none n few = ap (λ (z : ℕ). has_flag z n) (c.always_kept.ensures.none none) ∙ no_flags.exact n few
-
 pub returns-clause-lists : goal.returns-clause-lists
-returns-clause-lists g c asked is step none =
-    lists (frame g c asked is) (over g c) c.args.k g.M.Machine.bank (always g c) c.in_ok-live.live (made g c) c.calls.new.stacks.numbers (heads g c)
+returns-clause-lists g c asked is =
+    lists (frame g c asked is) (over g c) c.args.k g.M.Machine.bank c.in_ok-live.live (made g c) c.calls.new.stacks.numbers (heads g c)
     (stepped g c) (segments g c) (keys g c) (rows g c) (steps g c) c.in_ok-called.called.items (is_made g c asked is)
-    (ap (map contract_of) step) (none_kept g c none)
 
 pub returns-clause-lean : goal.returns-clause-lean
-returns-clause-lean g c asked is step none =
-    lean (frame g c asked is) (over g c) c.args.k g.M.Machine.bank (always g c) c.in_ok-live.live (made g c) c.calls.new.stacks.numbers (heads g c)
+returns-clause-lean g c asked is =
+    lean (frame g c asked is) (over g c) c.args.k g.M.Machine.bank c.in_ok-live.live (made g c) c.calls.new.stacks.numbers (heads g c)
     (stepped g c) (segments g c) (keys g c) (rows g c) (steps g c) c.in_ok-called.called.items (is_made g c asked is)
-    (ap (map contract_of) step) (none_kept g c none)
 
 pub returns-clause-formed : goal.returns-clause-formed
 returns-clause-formed g c =
     let asked : ℕ → Bool = λ f. has_flag c.args.out f in
     let is = own_flags c.args.out c.requires.out in
-    formed (frame g c asked is) (over g c) c.args.k g.M.Machine.bank (always g c) c.in_ok-live.live (made g c) c.calls.new.stacks.numbers (heads g c)
+    formed (frame g c asked is) (over g c) c.args.k g.M.Machine.bank c.in_ok-live.live (made g c) c.calls.new.stacks.numbers (heads g c)
     (stepped g c) (segments g c) (keys g c) (rows g c) (steps g c) c.in_ok-called.called.items (is_made g c asked is)
     (λ i d w. (let q = (c.in_ok-index.ensures.asserts.only i d w).0 in let l = length-map (parts g c).program.notes.now.asserts.items (λ a. a.at) in omega arith))
 
@@ -506,21 +497,21 @@ pub returns-clause-roots : goal.returns-clause-roots
 returns-clause-roots g c =
     let asked : ℕ → Bool = λ f. has_flag c.args.out f in
     let is = own_flags c.args.out c.requires.out in
-    roots_formed (frame g c asked is) (over g c) c.args.k g.M.Machine.bank (always g c) c.in_ok-live.live (made g c) c.calls.new.stacks.numbers (heads g c)
+    roots_formed (frame g c asked is) (over g c) c.args.k g.M.Machine.bank c.in_ok-live.live (made g c) c.calls.new.stacks.numbers (heads g c)
     (stepped g c) (segments g c) (keys g c) (rows g c) (steps g c) c.in_ok-called.called.items (is_made g c asked is)
 
 pub returns-clause-steps : goal.returns-clause-steps
 returns-clause-steps g c =
     let asked : ℕ → Bool = λ f. has_flag c.args.out f in
     let is = own_flags c.args.out c.requires.out in
-    steps_formed (frame g c asked is) (over g c) c.args.k g.M.Machine.bank (always g c) c.in_ok-live.live (made g c) c.calls.new.stacks.numbers (heads g c)
+    steps_formed (frame g c asked is) (over g c) c.args.k g.M.Machine.bank c.in_ok-live.live (made g c) c.calls.new.stacks.numbers (heads g c)
     (stepped g c) (segments g c) (keys g c) (rows g c) (steps g c) c.in_ok-called.called.items (is_made g c asked is)
 
 pub returns-clause-addresses : goal.returns-clause-addresses
 returns-clause-addresses g c =
     let asked : ℕ → Bool = λ f. has_flag c.args.out f in
     let is = own_flags c.args.out c.requires.out in
-    words (frame g c asked is) (over g c) c.args.k g.M.Machine.bank (always g c) c.in_ok-live.live (made g c) c.calls.new.stacks.numbers (heads g c)
+    words (frame g c asked is) (over g c) c.args.k g.M.Machine.bank c.in_ok-live.live (made g c) c.calls.new.stacks.numbers (heads g c)
     (stepped g c) (segments g c) (keys g c) (rows g c) (steps g c) c.in_ok-called.called.items (is_made g c asked is)
 
 pub returns-clause-form : goal.returns-clause-form
@@ -539,21 +530,21 @@ pub returns-clause-own : goal.returns-clause-own
 returns-clause-own g c =
     let asked : ℕ → Bool = λ f. has_flag c.args.out f in
     let is = own_flags c.args.out c.requires.out in
-    own_roots (frame g c asked is) (over g c) c.args.k g.M.Machine.bank (always g c) c.in_ok-live.live (made g c) c.calls.new.stacks.numbers (heads g c)
+    own_roots (frame g c asked is) (over g c) c.args.k g.M.Machine.bank c.in_ok-live.live (made g c) c.calls.new.stacks.numbers (heads g c)
     (stepped g c) (segments g c) (keys g c) (rows g c) (steps g c) c.in_ok-called.called.items (is_made g c asked is)
 
 pub returns-clause-first : goal.returns-clause-first
 returns-clause-first g c =
     let asked : ℕ → Bool = λ f. has_flag c.args.out f in
     let is = own_flags c.args.out c.requires.out in
-    entry_first (frame g c asked is) (over g c) c.args.k g.M.Machine.bank (always g c) c.in_ok-live.live (made g c) c.calls.new.stacks.numbers (heads g c)
+    entry_first (frame g c asked is) (over g c) c.args.k g.M.Machine.bank c.in_ok-live.live (made g c) c.calls.new.stacks.numbers (heads g c)
     (stepped g c) (segments g c) (keys g c) (rows g c) (steps g c) c.in_ok-called.called.items (is_made g c asked is)
 
 pub returns-clause-headed : goal.returns-clause-headed
 returns-clause-headed g c none =
     let asked : ℕ → Bool = λ f. has_flag c.args.out f in
     let is = own_flags c.args.out c.requires.out in
-    no_head_roots (frame g c asked is) (over g c) c.args.k g.M.Machine.bank (always g c) c.in_ok-live.live (made g c) c.calls.new.stacks.numbers (heads g c)
+    no_head_roots (frame g c asked is) (over g c) c.args.k g.M.Machine.bank c.in_ok-live.live (made g c) c.calls.new.stacks.numbers (heads g c)
     (stepped g c) (segments g c) (keys g c) (rows g c) (steps g c) c.in_ok-called.called.items (is_made g c asked is) (sym (heads_are g c) ∙ none)
 
 pub returns-clause-headless : goal.returns-clause-headless
@@ -565,10 +556,10 @@ returns-clause-headless g c e step own =
       invariants = e;
       heads = heads_are g c ∙ heads_none (frame g c asked is) (heads g c) refl c.in_ok-places.ensures.heads none;
       own = own;
-      roots = one_root (frame g c asked is) (over g c) c.args.k g.M.Machine.bank (always g c) c.in_ok-live.live (made g c) c.calls.new.stacks.numbers (heads g c)
+      roots = one_root (frame g c asked is) (over g c) c.args.k g.M.Machine.bank c.in_ok-live.live (made g c) c.calls.new.stacks.numbers (heads g c)
           (stepped g c) (segments g c) (keys g c) (rows g c) (steps g c) c.in_ok-called.called.items (is_made g c asked is) none;
-      deeds = no_arrivals (frame g c asked is) (over g c) c.args.k g.M.Machine.bank (always g c) c.in_ok-live.live (made g c) c.calls.new.stacks.numbers (heads g c)
+      deeds = no_arrivals (frame g c asked is) (over g c) c.args.k g.M.Machine.bank c.in_ok-live.live (made g c) c.calls.new.stacks.numbers (heads g c)
           (stepped g c) (segments g c) (keys g c) (rows g c) (steps g c) c.in_ok-called.called.items (is_made g c asked is) none (ap (map contract_of) step);
-      edges = no_aims (frame g c asked is) (over g c) c.args.k g.M.Machine.bank (always g c) c.in_ok-live.live (made g c) c.calls.new.stacks.numbers (heads g c)
+      edges = no_aims (frame g c asked is) (over g c) c.args.k g.M.Machine.bank c.in_ok-live.live (made g c) c.calls.new.stacks.numbers (heads g c)
           (stepped g c) (segments g c) (keys g c) (rows g c) (steps g c) c.in_ok-called.called.items (is_made g c asked is) none;
     }
