@@ -3,7 +3,9 @@
 
 mod changes;
 mod meanings;
+mod notes;
 mod rows;
 mod steps;
 
+pub use notes::push_note_line;
 pub use steps::{push_last_steps, push_steps};
