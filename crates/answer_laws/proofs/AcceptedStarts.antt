@@ -38,7 +38,7 @@ use Rattle.notes_lang.proofs.Readable.{notes_over}
 
 -- ---- states that are the same but for the registers and flags that a machine does not have
 
-record IsAlike (has_register has_flag : ℕ → Bool) (s t : State) : Type 0 where
+pub record IsAlike (has_register has_flag : ℕ → Bool) (s t : State) : Type 0 where
   pub pc : s.pc ≡ t.pc
   pub regs : (r : ℕ) → has_register r ≡ true → s.regs r ≡ t.regs r
   pub flags : (f : ℕ) → has_flag f ≡ true → s.flags f ≡ t.flags f
@@ -68,8 +68,8 @@ module _ (e : Endian) (has_register has_flag : ℕ → Bool) (a b : State) (befo
       (lines_alike rest (All-tail (λ (x : NoteLine). IsOver has_register has_flag x.says) l rest over) s t now)
 
 -- such a state is an entry state as well
-entry_alike : (p : Program) → AreOver p.machine.has_register p.machine.has_flag p.notes → p.machine.has_register p.machine.link ≡ true → (s t : State) →
-    IsAlike p.machine.has_register p.machine.has_flag s t → IsState t → IsEntryState p s → IsEntryState p t
+pub entry_alike : (p : Program) → All (λ l. IsOver p.machine.has_register p.machine.has_flag l.says) p.notes.requires →
+    p.machine.has_register p.machine.link ≡ true → (s t : State) → IsAlike p.machine.has_register p.machine.has_flag s t → IsState t → IsEntryState p s → IsEntryState p t
 entry_alike p over link s t same state entry = record {
   state = state;
   pc = sym same.pc ∙ entry.pc;
@@ -77,12 +77,12 @@ entry_alike p over link s t same state entry = record {
   kept_bytes = λ a c l e q. ap (λ m. m a) (sym same.mem) ∙ entry.kept_bytes a c l e q;
   fixed_bytes = λ a c l e q. ap (λ m. m a) (sym same.mem) ∙ entry.fixed_bytes a c l e q;
   requires =
-      sym (lines_alike p.machine.endian p.machine.has_register p.machine.has_flag s t same p.notes.requires over.requires s t same) ∙ entry.requires;
+      sym (lines_alike p.machine.endian p.machine.has_register p.machine.has_flag s t same p.notes.requires over s t same) ∙ entry.requires;
 }
 
 -- ---- a layout shows the registers and flags that its machine has
 
-record IsShownBy (layout : Layout) (m : Machine) : Type 0 where
+pub record IsShownBy (layout : Layout) (m : Machine) : Type 0 where
   pub registers : (n : ℕ) → m.has_register n ≡ true → (layout.first ≤ n) × (n < layout.first + length layout.registers)
   pub flags : (f : ℕ) → m.has_flag f ≡ true → f < length layout.flags
   pub link : m.has_register m.link ≡ true
@@ -90,7 +90,7 @@ record IsShownBy (layout : Layout) (m : Machine) : Type 0 where
 from_le : (a b : ℕ) → nat_le a b ≡ true → a ≤ b
 from_le a b h = grind (arith, nat_tests)
 
-shown_by : (b : Bool) (e : Endian) (o : Options) →
+pub shown_by : (b : Bool) (e : Endian) (o : Options) →
     IsShownBy (if b then rv_layout o.compressed else arm_layout e o.profile) (if b then rv32 o.compressed else arm e o.profile)
 shown_by true e o = record {
   registers = λ n h.
@@ -160,7 +160,7 @@ module _ (p : Program) (layout : Layout) (shown : IsShownBy layout p.machine) (o
 
   is_start : IsStart p (start_in p layout w)
   is_start = record {
-    entry = entry_alike p over shown.link (with_memory r.state printed_state.mem) printed_state is_alike is_state entered;
+    entry = entry_alike p over.requires shown.link (with_memory r.state printed_state.mem) printed_state is_alike is_state entered;
     choices = choices_small p layout k steps r w reading entry printed;
   }
 

@@ -28,3 +28,4 @@ pub mod NoHeads
 pub mod OfLayout
 pub mod Failing
 pub mod EqualFindings
+pub mod OneEntryAnswer

@@ -12,3 +12,4 @@ pub mod FrameReplayed
 pub mod LayoutContracts
 pub mod Failing
 pub mod EqualFindings
+pub mod ModelAnswers

@@ -5,6 +5,7 @@
 pub mod contracts;
 pub mod fails;
 pub mod invariants;
+pub mod models;
 pub mod pairs;
 pub mod readings;
 pub mod reports;
