@@ -5,10 +5,10 @@ use Rattle.std.proofs.lemmas.List.{map-append}
 use Rattle.machine_spec.specs.StateText.{Layout, value_names}
 use Rattle.frame_spec.specs.Frames.{Contract, Frame, contract_at}
 use Rattle.frame_spec.specs.FramePoints.{Point, has_heads}
-use Rattle.frame_spec.specs.FrameScripts.{changed_flags, changed_registers, frame_drawn_names, frame_symbols_of, given_at, given_names, given_symbols, head_symbols, of_given, of_head, writes_some, written_memory}
+use Rattle.frame_spec.specs.FrameScripts.{changed_flags, changed_registers, frame_drawn_names, given_at, given_symbols, head_symbols, of_given, of_head, writes_some, written_memory}
 use Rattle.model_spec.specs.ModelText.{Declared}
 use Rattle.answer_spec.specs.FrameAnswerLaws.{DeclaredAreOfScripts}
-use Rattle.answer_spec.specs.FrameModels.{all_given_declared, entry_declared, frame_declared, given_declared, head_declared, memories_named, words_named}
+use Rattle.answer_spec.specs.FrameModels.{all_given_declared, entry_declared, given_declared, head_declared, memories_named, words_named}
 
 -- the names of declared symbols
 abbrev names_in : List Declared → List (List ℕ)

@@ -7,9 +7,8 @@ use Rattle.std.proofs.lemmas.Bool.Decides.{nat_tests}
 use Rattle.std.proofs.lemmas.Slice.Eq.{bytes_eq-Decides}
 use Rattle.bilv_spec.specs.Points as plain
 use Rattle.bilv_spec.specs.Scripts.{is_below_from_end, is_stack_below, is_point_below}
-use Rattle.frame_spec.specs.Frames.{Frame}
 use Rattle.frame_spec.specs.FramePoints.{Anchor, AtEntry, AtHead, Point, triple}
-use Rattle.frame_spec.specs.FrameScripts.{AreFrameNumbered, is_anchor_below, is_frame_point_below, is_same_anchor, is_same_triple}
+use Rattle.frame_spec.specs.FrameScripts.{is_anchor_below, is_frame_point_below, is_same_anchor, is_same_triple}
 use Rattle.answer_spec.specs.FrameAnswerLaws.{OneFrameNumbering}
 
 -- two ways round by a first test, and where it ties by a second one

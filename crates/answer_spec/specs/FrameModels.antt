@@ -17,7 +17,7 @@ use Rattle.frame_spec.specs.FramePoints.{Point, has_heads}
 use Rattle.frame_spec.specs.FrameReports.{HasMore, IsWholePrice, IsWithin}
 use Rattle.frame_spec.specs.FrameScripts.{AreFrameNumbered, changed_flags, changed_registers, frame_drawn_names, of_given, of_head, writes_some, written_memory}
 use Rattle.frame_spec.specs.FrameVerdict.{Whole, frame_of}
-use Rattle.model_spec.specs.ModelText.{Declared, Definition, IsAnswer, IsModelFault, Memories, ModelFault, Sort, Words}
+use Rattle.model_spec.specs.ModelText.{Declared, Definition, IsAnswer, IsModelFault, Memories, ModelFault, Words}
 use Rattle.model_spec.specs.Models.{AfterBudgets, IsAskedModelAnswer, given, memory_of, model_fault_words, word_of}
 use Rattle.model_spec.specs.Reads.{line_reads}
 use Rattle.notes_spec.specs.Scopes.{Dialect, Paired}
